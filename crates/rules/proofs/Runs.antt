@@ -1,0 +1,209 @@
+-- Document 01, "Runs to check, whole": the runs marked P, all rows of one table, under one claim that antt computes.
+use Prim.Native.Nat.{ℕ, suc, _+_, _-_, _*_}
+use Prim.Native.String.{String}
+use mathlib.Core.Bool.{Bool, true, false, cond, not, _&&_, _||_}
+use mathlib.Core.List.{List, [], _∷_, _++_}
+use mathlib.Core.Option.{Option, none, some}
+use mathlib.Core.Path.{_≡_, refl}
+use lib.ListN.{length, getD, replicate}
+use lib.Dec.{eqb, leb, ltb}
+use Rattle.rules.specs.Text as Text
+use Rattle.rules.specs.Line as Line
+use Rattle.rules.specs.Reading as Reading
+use Rattle.rules.specs.State as State
+use Rattle.rules.specs.Placing as Placing
+use Rattle.rules.specs.Search as Search
+use Rattle.rules.specs.Load as Load
+use Rattle.rules.specs.Image as Image
+use Rattle.rules.specs.Calls as Calls
+use Rattle.rules.specs.Text.{bytes, numberOf, packName}
+use Rattle.rules.specs.Line.{sameText}
+use Rattle.rules.specs.State.{Symbol, symbol, Word, unplaced, plain, refers, Mark, unmarked, broken, frozen, fresh, undefinedOnly}
+use Rattle.rules.specs.Calls.{LoadOutcome, Left, asBefore, now, holding, load, base, end}
+
+-- ---- the files
+
+main : List ℕ
+main =
+    bytes
+    "3 ***TITLE\nMAIN\n4 1 ***ENTRY\nMAIN 0 1 0\n5 1 ***EXT\nSQ\n0 2 0 ***CODE\n1 2 3 4\n* 0 0 0 177777 0 5 1\n1 ***END\nMAIN\n"
+
+low : List ℕ
+low = bytes "3 ***TITLE\nLOW\n4 1 ***ENTRY\nLOW 0 1 0\n0 1 0 ***CODE\n7 7 7 7\n1 ***END\nLOW\n"
+
+sq : List ℕ
+sq =
+    bytes
+    "3 ***TITLE\nSQ\n4 1 ***ENTRY\nSQ 1 1 0\n5 1 ***EXT\nLOW\n0 2 0 ***CODE\n0 0 0 10\n* 0 0 0 2 0 5 1\n1 ***END\nSQ\n"
+
+cube : List ℕ
+cube = bytes "3 ***TITLE\nCUBE\n4 1 ***ENTRY\nCUBE 5 0\n1 ***END\nCUBE\n"
+
+library : List ℕ
+library = bytes "6 ***LSB\n" ++ low ++ sq ++ cube ++ bytes "7 ***LEB\n"
+
+-- ---- what is compared
+
+-- an image as document 01 prints it: hexadecimal digits, in capitals, spaces free
+digit : ℕ → ℕ
+digit c = cond (ltb c 58) (c - 48) (c - 55)
+
+spaceless : List ℕ → List ℕ
+spaceless [] = []
+spaceless (c ∷ cs) = let r = spaceless cs in cond (eqb c 32) r (c ∷ r)
+
+pairs : List ℕ → List ℕ
+pairs [] = []
+pairs (a ∷ []) = []
+pairs (a ∷ b ∷ cs) = (digit a * 16 + digit b) ∷ pairs cs
+
+hex : String → List ℕ
+hex s = pairs (spaceless (bytes s))
+
+-- a table of symbols as numbers
+tableNumbers : List Symbol → List ℕ
+tableNumbers [] = []
+tableNumbers (s ∷ t) = s .name ∷ s .value ∷ cond (s .defined) 1 0 ∷ tableNumbers t
+
+named : String → ℕ
+named s = packName (bytes s)
+
+wordNumbers : Word → List ℕ
+wordNumbers unplaced = 0 ∷ []
+wordNumbers (plain x) = 1 ∷ x ∷ []
+wordNumbers (refers x i) = 2 ∷ x ∷ i ∷ []
+
+allWords : List Word → List ℕ
+allWords [] = []
+allWords (w ∷ ws) = wordNumbers w ++ allWords ws
+
+markNumber : Mark → ℕ
+markNumber unmarked = 0
+markNumber broken = 1
+markNumber frozen = 2
+
+sameState : State.State → State.State → Bool
+sameState a b =
+    sameText (tableNumbers (a .symbols)) (tableNumbers (b .symbols))
+    && (sameText (allWords (a .words)) (allWords (b .words))
+    && (eqb (a .next) (b .next) && eqb (markNumber (a .mark)) (markNumber (b .mark))))
+
+-- a load from a state, and the state that it leaves
+loadIn : State.State → List ℕ → LoadOutcome
+loadIn s file = load (holding s) true file
+
+after : State.State → Left → State.State
+after s asBefore = s
+after s (now t) = t
+
+then : State.State → List ℕ → State.State
+then s file = after s (loadIn s file .left)
+
+answers : LoadOutcome → ℕ → ℕ → ℕ → Bool
+answers o k n r = eqb (o .answer .number) k && (eqb (o .answer .line) n && eqb (o .answer .rounds) r)
+
+baseAt : ℕ → State.State → State.State
+baseAt n s = after s (base (holding s) n .left)
+
+linked : State.State
+linked = then fresh (main ++ library)
+
+-- a module without entries or externals, and its code
+coded : String → List ℕ
+coded code = bytes "3 ***TITLE\nM\n" ++ bytes code ++ bytes "1 ***END\nM\n"
+
+-- a module of one word, whose first quarter is given
+oneWord : String → List ℕ
+oneWord n = bytes "3 ***TITLE\nM\n0 1 0 ***CODE\n" ++ bytes n ++ bytes " 0 0 0\n1 ***END\nM\n"
+
+-- MAIN's words under another title and entry
+again : List ℕ
+again =
+    bytes
+    "3 ***TITLE\nAGAIN\n4 1 ***ENTRY\nAGAIN 0 1 0\n5 1 ***EXT\nSQ\n0 2 0 ***CODE\n1 2 3 4\n* 0 0 0 177777 0 5 1\n1 ***END\nAGAIN\n"
+
+-- ---- the rows
+
+-- the program words of P1: MAIN at 0, SQ at 2, LOW at 4, and nothing else
+wordsLinked : List Word
+wordsLinked =
+    plain 0x0001_0002_0003_0004
+    ∷ refers 0xFFFF 1
+    ∷ plain 8
+    ∷ refers 2 2
+    ∷ plain 0x0007_0007_0007_0007
+    ∷ replicate 4091 unplaced
+
+pub p1 : Bool
+p1 =
+    answers (loadIn fresh (main ++ library)) 0 0 3
+    && (sameText (allWords (linked .words)) (allWords wordsLinked)
+    && (eqb (linked .next) 5 && not (State.isSymbol (named "CUBE") (linked .symbols))))
+
+pub p2 : Bool
+p2 =
+    sameText
+    (tableNumbers (linked .symbols))
+    (named "MAIN" ∷ 0 ∷ 1 ∷ named "SQ" ∷ 3 ∷ 1 ∷ named "LOW" ∷ 4 ∷ 1 ∷ [])
+
+-- the image, 60 bytes, ahead of what stood past it
+pub p3 : Bool
+p3 =
+    let e = end (holding linked) (replicate 63 1) in
+    eqb (e .answer .number) 0
+    && (eqb (e .answer .length) 60
+    && sameText
+    (e .output)
+    (hex
+    "57 0000 0001 0002 0003 0004 57 0001 0000 0000 0000 0002 57 0002 0000 0000 0000 0008 57 0003 0000 0000 0000 0006 57 0004 0007 0007 0007 0007 45 0004 0000 01 01 01"))
+
+pub p4 : Bool
+p4 =
+    let s = then fresh main in
+    answers (loadIn fresh main) 0 0 0
+    && (eqb (length (undefinedOnly (s .symbols))) 1
+    && sameText (Image.imageOf s) (hex "57 0000 0001 0002 0003 0004 57 0001 0000 0000 0000 FFFF 45 0001 0001"))
+
+pub p5 : Bool
+p5 = answers (loadIn linked []) 0 0 0 && sameState (then linked []) linked
+
+isNumber : Option ℕ → ℕ → Bool
+isNumber none n = false
+isNumber (some m) n = eqb m n
+
+pub p6 : Bool
+p6 =
+    isNumber (numberOf (bytes "177777")) 65535
+    && (answers (loadIn fresh (oneWord "177777")) 0 0 0
+    && (answers (loadIn fresh (oneWord "200000")) 6 4 0 && answers (loadIn fresh (oneWord "8")) 6 4 0))
+
+-- BASE 4,095: one word fits, two are 9; at next address 4,096 a module without code loads
+pub p7 : Bool
+p7 =
+    let s = baseAt 4095 fresh in
+    let t = then s (oneWord "1") in
+    answers (loadIn s (oneWord "1")) 0 0 0
+    && (answers (loadIn s (coded "0 2 0 ***CODE\n0 0 0 0\n0 0 0 0\n")) 9 1 0
+    && (eqb (t .next) 4096 && answers (loadIn t (coded "")) 0 0 0))
+
+-- BASE 0 after P1, then MAIN's words under another title and entry: 10, then any LOAD 3; nothing but the mark has changed
+pub p8 : Bool
+p8 =
+    let s = baseAt 0 linked in
+    let t = then s again in
+    answers (loadIn s again) 10 1 0
+    && (sameState t (State.marked broken s) && (answers (loadIn t []) 3 0 0 && sameState (then t []) t))
+
+-- LOW twice in one library: 13, though nobody wants it
+pub p9 : Bool
+p9 = answers (loadIn fresh (bytes "6 ***LSB\n" ++ low ++ low ++ bytes "7 ***LEB\n")) 13 1 0
+
+-- an FPB record of size 3 with two sub-records: the next header is read as the third
+pub p10 : Bool
+p10 =
+    answers (loadIn fresh (coded "12 1 ***FPB\n0 0 3\n0 0\n0 0\n")) 6 7 0
+    && answers (loadIn fresh (coded "12 1 ***FPB\n0 0 2\n0 0\n0 0\n")) 0 0 0
+
+pub p-table : (p1 && (p2 && (p3 && (p4 && (p5 && (p6 && (p7 && (p8 && (p9 && p10))))))))) ≡ true
+unfolding main low sq cube library digit spaceless pairs hex tableNumbers named wordNumbers allWords markNumber sameState loadIn after then answers baseAt linked coded oneWord again wordsLinked isNumber p1 p2 p3 p4 p5 p6 p7 p8 p9 p10 Text.bytes Text.all Text.any Text.startsLF Text.widenLine Text.addToLines Text.linesOf Text.legalFront Text.startsField Text.widenField Text.addToFields Text.fieldsFrom Text.fieldsOf Text.octal Text.isNumber Text.numberOf Text.isName Text.packName Text.nameOf Text.upToZero Text.unpackName Text.isPacked Line.headers Line.rowIn Line.rowOf Line.markerIn Line.sameText Line.held Line.inBounds Line.readField Line.inFront Line.fit Line.said Line.sayHeader Line.rowAt Line.firstText Line.headerLine Line.codeLine Line.isOne Line.textAt Line.entryLine Line.fieldsSay Line.lineOf Line.faultWithin Line.testBytes Line.lineAnswer Reading.atStart Reading.want Reading.wantRecords Reading.recordDone Reading.wantSubs Reading.titleHeader Reading.enterModule Reading.leaveModule Reading.enterSection Reading.leaveSection Reading.countEntry Reading.countExternal Reading.titleStep Reading.libraryStep Reading.libraryEndStep Reading.headerStep Reading.closingStep Reading.entryStep Reading.externalStep Reading.parameterStep Reading.subStep Reading.stepOf Reading.isHeader Reading.atEnd Reading.onward Reading.readFrom Reading.readingOf Reading.moduleDone Reading.gather Reading.itemsFrom Reading.itemsOf State.noWords State.fresh State.isSymbol State.isDefined State.isUndefined State.placeOf State.undefinedOnly State.placedWords State.highestFrom State.highest State.high State.soundSymbol State.differentNames State.soundWord State.sound Placing.entriesIn Placing.externalsIn Placing.codeIn Placing.lengthIn Placing.countIn Placing.valueAt Placing.define Placing.mention Placing.defineAll Placing.mentionAll Placing.joined Placing.linked Placing.putAll Placing.noRoom Placing.clash Placing.overlaps Placing.badArgument Placing.badArguments Placing.outOfRange Placing.twice Placing.duplicates Placing.tableFull Placing.placingFault Placing.placed Search.nowhere Search.with Search.visit Search.sweep Search.round Search.rounds Search.search Load.tryPlace Load.place Load.entryNames Load.wanted Load.wants Load.searched Load.sectionNames Load.testSection Load.walkItem Load.walkItems Load.walked Load.loadRead Load.loadFile Image.valueOf Image.completed Image.two Image.quarters Image.wordRecord Image.recordOf Image.recordsFrom Image.endRecord Image.imageOf Calls.workAfter Calls.shutBy Calls.loadState Calls.loadLent Calls.load Calls.forceState Calls.force Calls.baseState Calls.base Calls.reset Calls.memory Calls.symbolAt Calls.symbols Calls.undefinedAt Calls.undefined Calls.isBroken Calls.endState Calls.end
+p-table = refl

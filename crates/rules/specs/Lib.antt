@@ -1,0 +1,9 @@
+pub mod Text
+pub mod Line
+pub mod Reading
+pub mod State
+pub mod Placing
+pub mod Search
+pub mod Load
+pub mod Image
+pub mod Calls

@@ -1,0 +1,246 @@
+-- Document 01, "The lines": what a line says, by what is wanted of it, or its fault.
+use Prim.Native.Nat.{ℕ, suc, _+_, _*_}
+use mathlib.Core.Bool.{Bool, true, false, cond, not, _&&_}
+use mathlib.Core.List.{List, [], _∷_, _++_}
+use mathlib.Core.Option.{Option, none, some}
+use lib.ListN.{length, getD}
+use lib.Dec.{eqb, leb, ltb}
+use Prim.Native.String.{String}
+use Rattle.rules.specs.Text.{bytes, Field, fieldsOf, numberOf, nameOf, legalFront, between}
+use Rattle.rules.specs.declared.line.FaultKind.{FaultKind}
+use Rattle.rules.specs.declared.line.FaultKind.the-variants.{IllegalByte, BadMarker, FieldCount, BadNumber, BadName, BadType}
+use Rattle.rules.specs.declared.line.Fault.{Fault}
+use Rattle.rules.specs.declared.line.Kind.{Kind}
+use Rattle.rules.specs.declared.line.Kind.the-variants.{Number, Name, Anything, Marker}
+use Rattle.rules.specs.declared.line.Relocation.{Relocation}
+use Rattle.rules.specs.declared.line.Relocation.the-variants.{Plain, External, Unread}
+use Rattle.rules.specs.declared.line.CodeWord.{CodeWord}
+use Rattle.rules.specs.declared.line.Entry.{Entry}
+use Rattle.rules.specs.declared.line.Header.{Header}
+use Rattle.rules.specs.declared.line.Header.the-variants.{CodeBlock, EndBlock, TitleBlock, EntryBlock, ExternalBlock, LibraryStart, LibraryEnd, DataBlock, InitBlock, ParameterBlock}
+use Rattle.rules.specs.declared.line.Wanted.{Wanted}
+use Rattle.rules.specs.declared.line.Wanted.the-variants.{AnyHeader, OpeningTitle, ClosingTitle, CodeRecord, EntryRecord, ExternalRecord, DataRecord, InitRecord, ParameterRecord, SubRecord}
+use Rattle.rules.specs.declared.line.LineAnswer.{LineAnswer}
+use Rattle.rules.specs.declared.line.LineAnswer.the-variants.{Bad, Blank, Head, Opening, Closing, Code, Entered, Mentioned, Ignored, Parameter, Sub}
+
+-- ---- the table of headers
+
+-- what stands in a field of a shape that was fitted: a number's value or a packed name, 0 for any other kind
+abbrev pub nth : List ℕ → ℕ → ℕ
+nth vs k = getD vs k 0
+
+abbrev pub number : Kind
+number = Number 0 0o177777 BadNumber
+
+-- a row: the code, the fields between code and marker, the marker, and what the header says; field 0 is the code
+pub record Row : Type 0 where
+  pub code : ℕ
+  pub fields : List Kind
+  pub marker : List ℕ
+  pub says : List ℕ → Header
+
+abbrev pub row : ℕ → List Kind → String → (List ℕ → Header) → Row
+row c ks m h = record { code = c; fields = ks; marker = bytes m; says = h }
+
+-- "A header is a code (a number like any other, so `010` is code 10), its fields and the marker, in that order"
+unfoldable pub headers : List Row
+headers =
+    row 0o0 (number ∷ number ∷ []) "***CODE" (λ v. CodeBlock (nth v 1) (nth v 2))
+    ∷ row 0o1 [] "***END" (λ v. EndBlock)
+    ∷ row 0o3 [] "***TITLE" (λ v. TitleBlock)
+    ∷ row 0o4 (number ∷ []) "***ENTRY" (λ v. EntryBlock (nth v 1))
+    ∷ row 0o5 (number ∷ []) "***EXT" (λ v. ExternalBlock (nth v 1))
+    ∷ row 0o6 [] "***LSB" (λ v. LibraryStart)
+    ∷ row 0o7 [] "***LEB" (λ v. LibraryEnd)
+    ∷ row 0o10 (number ∷ Name ∷ number ∷ []) "***DBDB" (λ v. DataBlock (nth v 1))
+    ∷ row 0o11 (number ∷ []) "***DBIB" (λ v. InitBlock (nth v 1))
+    ∷ row 0o12 (number ∷ []) "***FPB" (λ v. ParameterBlock (nth v 1))
+    ∷ row 0o13 (number ∷ []) "***AENTRY" (λ v. EntryBlock (nth v 1))
+    ∷ []
+
+-- the row with a code
+unfoldable pub rowIn : List Row → ℕ → Option Row
+rowIn [] c = none
+rowIn (r ∷ rs) c = let rest = rowIn rs c in cond (eqb (r .code) c) (some r) rest
+
+unfoldable pub rowOf : ℕ → Option Row
+rowOf c = rowIn headers c
+
+-- the marker of a block, nothing where there is no such block
+unfoldable pub markerIn : Option Row → List ℕ
+markerIn none = []
+markerIn (some r) = r .marker
+
+abbrev pub markerOf : ℕ → List ℕ
+markerOf c = markerIn (rowOf c)
+
+-- ---- fields against the kinds that they have to be
+
+unfoldable pub sameText : List ℕ → List ℕ → Bool
+sameText [] [] = true
+sameText [] (c ∷ cs) = false
+sameText (b ∷ bs) [] = false
+sameText (b ∷ bs) (c ∷ cs) = eqb b c && sameText bs cs
+
+-- a field that is of its kind, with its value, or is not, with the fault
+pub data Held : Type 0 where
+  value : ℕ → Held
+  wrong : FaultKind → Held
+
+unfoldable pub held : FaultKind → Option ℕ → Held
+held k none = wrong k
+held k (some v) = value v
+
+unfoldable pub inBounds : ℕ → ℕ → FaultKind → Held → Held
+inBounds low high k (value v) = cond (between low high v) (value v) (wrong k)
+inBounds low high k (wrong j) = wrong j
+
+unfoldable pub readField : Kind → List ℕ → Held
+readField (Number low high k) f = inBounds low high k (held BadNumber (numberOf f))
+readField Name f = held BadName (nameOf f)
+readField Anything f = value 0
+readField (Marker c) f = cond (sameText f (markerOf c)) (value 0) (wrong BadMarker)
+
+-- the values of a line's fields, or its leftmost fault among the fields
+pub data Fitted : Type 0 where
+  fits : List ℕ → Fitted
+  misfit : Fault → Fitted
+
+abbrev pub fault : FaultKind → ℕ → Fault
+fault k c = record { kind = k; column = c }
+
+-- one field in front of those that are fitted
+unfoldable pub inFront : ℕ → Held → Fitted → Fitted
+inFront c (wrong k) rest = misfit (fault k c)
+inFront c (value v) (misfit f) = misfit f
+inFront c (value v) (fits vs) = fits (v ∷ vs)
+
+-- a field too many is told at its column, a field too few one past the line's last byte
+unfoldable pub fit : ℕ → List Kind → List Field → Fitted
+fit end [] [] = fits []
+fit end [] (f ∷ fs) = misfit (fault FieldCount (f .column))
+fit end (k ∷ ks) [] = misfit (fault FieldCount end)
+fit end (k ∷ ks) (f ∷ fs) = inFront (f .column) (readField k (f .text)) (fit end ks fs)
+
+unfoldable pub said : (List ℕ → LineAnswer) → Fitted → LineAnswer
+said answer (fits vs) = answer vs
+said answer (misfit f) = Bad f
+
+-- ---- headers
+
+unfoldable pub sayHeader : ℕ → List Field → Option Row → LineAnswer
+sayHeader end [] r = Blank
+sayHeader end (f ∷ fs) none = Bad (fault BadMarker (f .column))
+sayHeader end (f ∷ fs) (some r) =
+    said (λ vs. Head (r .says vs)) (fit end (Anything ∷ r .fields ++ (Marker (r .code) ∷ [])) (f ∷ fs))
+
+unfoldable pub rowAt : Option ℕ → Option Row
+rowAt none = none
+rowAt (some c) = rowOf c
+
+-- the first field
+unfoldable pub firstText : List Field → List ℕ
+firstText [] = []
+firstText (f ∷ fs) = f .text
+
+-- a code that is unknown or no number is a fault of its own
+unfoldable pub headerLine : ℕ → List Field → LineAnswer
+headerLine end fs = sayHeader end fs (rowAt (numberOf (firstText fs)))
+
+-- ---- data records
+
+-- four quarters as one word, the first highest
+abbrev pub wordOf : ℕ → ℕ → ℕ → ℕ → ℕ
+wordOf a b c d = ((a * 65536 + b) * 65536 + c) * 65536 + d
+
+abbrev pub codeWord : ℕ → Relocation → CodeWord
+codeWord t r = record { text = t; relocation = r }
+
+-- "Type 5 is an external [..] Types 1 to 4 leave the word as written"
+abbrev pub relocationOf : ℕ → ℕ → Relocation
+relocationOf type arg = cond (eqb type 5) (External arg) (Unread type)
+
+-- is the first field an asterisk
+abbrev pub starred : List Field → Bool
+starred fs = sameText (firstText fs) (42 ∷ [])
+
+-- "A code record is four numbers, the quarters; or an asterisk field, four quarters, then 0, type and arg."
+unfoldable pub codeLine : ℕ → List Field → LineAnswer
+codeLine end fs =
+    cond
+    (starred fs)
+    (said
+    (λ v. Code (codeWord (wordOf (nth v 1) (nth v 2) (nth v 3) (nth v 4)) (relocationOf (nth v 6) (nth v 7))))
+    (fit
+    end
+    (Anything ∷ number ∷ number ∷ number ∷ number ∷ Number 0 0 BadType ∷ Number 1 5 BadType ∷ number ∷ [])
+    fs))
+    (said
+    (λ v. Code (codeWord (wordOf (nth v 0) (nth v 1) (nth v 2) (nth v 3)) Plain))
+    (fit end (number ∷ number ∷ number ∷ number ∷ []) fs))
+
+abbrev pub entry : ℕ → ℕ → Bool → ℕ → Entry
+entry n v r p = record { name = n; value = v; relocated = r; parameters = p }
+
+unfoldable pub isOne : Option ℕ → Bool
+isOne none = false
+isOne (some n) = eqb n 1
+
+-- the text of field k, nothing past the last
+unfoldable pub textAt : List Field → ℕ → List ℕ
+textAt fs k = getD fs k (record { column = 0; text = [] }) .text
+
+-- "symbol value 0, or symbol value 1 paramnum"
+unfoldable pub entryLine : ℕ → List Field → LineAnswer
+entryLine end fs =
+    cond
+    (isOne (numberOf (textAt fs 2)))
+    (said
+    (λ v. Entered (entry (nth v 0) (nth v 1) true (nth v 3)))
+    (fit end (Name ∷ number ∷ Number 0 1 BadType ∷ number ∷ []) fs))
+    (said (λ v. Entered (entry (nth v 0) (nth v 1) false 0)) (fit end (Name ∷ number ∷ Number 0 1 BadType ∷ []) fs))
+
+-- what the fields of a line say, by what is wanted
+unfoldable pub fieldsSay : Wanted → ℕ → List Field → LineAnswer
+fieldsSay AnyHeader end fs = headerLine end fs
+fieldsSay OpeningTitle end fs = said (λ v. Opening (nth v 0)) (fit end (Name ∷ []) fs)
+fieldsSay ClosingTitle end fs = said (λ v. Closing (nth v 0)) (fit end (Name ∷ []) fs)
+fieldsSay CodeRecord end fs = codeLine end fs
+fieldsSay EntryRecord end fs = entryLine end fs
+fieldsSay ExternalRecord end fs = said (λ v. Mentioned (nth v 0)) (fit end (Name ∷ []) fs)
+fieldsSay DataRecord end fs = said (λ v. Ignored) (fit end (number ∷ number ∷ []) fs)
+fieldsSay InitRecord end fs =
+    said (λ v. Ignored) (fit end (Anything ∷ Anything ∷ Anything ∷ Anything ∷ Anything ∷ []) fs)
+fieldsSay ParameterRecord end fs =
+    said (λ v. Parameter (nth v 2)) (fit end (number ∷ number ∷ Number 0 7 BadNumber ∷ []) fs)
+fieldsSay SubRecord end fs = said (λ v. Sub) (fit end (number ∷ number ∷ []) fs)
+
+-- ---- the whole line
+
+-- "A line with no field is skipped but counted"
+unfoldable pub lineOf : Wanted → ℕ → List Field → LineAnswer
+lineOf w end [] = Blank
+lineOf w end (f ∷ fs) = fieldsSay w end (f ∷ fs)
+
+-- is this a fault told within the first n columns
+unfoldable pub faultWithin : ℕ → LineAnswer → Bool
+faultWithin n (Bad f) = leb (f .column) n
+faultWithin n Blank = false
+faultWithin n (Head h) = false
+faultWithin n (Opening t) = false
+faultWithin n (Closing t) = false
+faultWithin n (Code w) = false
+faultWithin n (Entered e) = false
+faultWithin n (Mentioned x) = false
+faultWithin n Ignored = false
+faultWithin n (Parameter s) = false
+faultWithin n Sub = false
+
+-- the first illegal byte, or the 81st, counts among the line's faults, of which the leftmost is told
+unfoldable pub testBytes : ℕ → ℕ → LineAnswer → LineAnswer
+testBytes front size answer =
+    cond (leb size front) answer (cond (faultWithin front answer) answer (Bad (fault IllegalByte (front + 1))))
+
+-- what a line says, given what is wanted of it
+unfoldable pub lineAnswer : Wanted → List ℕ → LineAnswer
+lineAnswer w line = testBytes (legalFront 80 line) (length line) (lineOf w (length line + 1) (fieldsOf line))

@@ -1,0 +1,150 @@
+-- Document 01, "The lines" and "Numbers that bound it": lines, fields, numbers and names, over lists of bytes.
+use Prim.Native.Nat.{ℕ, zero, suc, _+_, _-_, _*_, _/_, _%_, _^_}
+use Prim.Native.Char.{Char, code}
+use Prim.Native.String.{String, [] as none-left, _∷_ as _then_}
+use mathlib.Core.Bool.{Bool, true, false, cond, not, _&&_, _||_}
+use mathlib.Core.List.{List, [], _∷_}
+use mathlib.Core.Option.{Option, none, some}
+use lib.ListN.{length, getD}
+use lib.Dec.{eqb, leb, ltb}
+
+-- a quoted text as bytes
+unfoldable pub bytes : String → List ℕ
+bytes none-left = []
+bytes (c then s) = code c ∷ bytes s
+
+abbrev pub LF : ℕ
+LF = 10
+
+abbrev pub CR : ℕ
+CR = 13
+
+abbrev pub space : ℕ
+space = 32
+
+abbrev pub between : ℕ → ℕ → ℕ → Bool
+between low high n = leb low n && leb n high
+
+unfoldable pub all {ℓ} : {A : Type ℓ} → (A → Bool) → List A → Bool
+all p [] = true
+all p (x ∷ xs) = p x && all p xs
+
+unfoldable pub any {ℓ} : {A : Type ℓ} → (A → Bool) → List A → Bool
+any p [] = false
+any p (x ∷ xs) = p x || any p xs
+
+-- ---- lines
+
+-- does the text start with an LF
+unfoldable pub startsLF : List ℕ → Bool
+startsLF [] = false
+startsLF (b ∷ rest) = eqb b LF
+
+-- a byte in front of the first line
+unfoldable pub widenLine : ℕ → List (List ℕ) → List (List ℕ)
+widenLine b [] = (b ∷ []) ∷ []
+widenLine b (l ∷ ls) = (b ∷ l) ∷ ls
+
+-- a byte in front of a text with these lines: an LF ends a line, and a CR just before an LF is dropped
+unfoldable pub addToLines : ℕ → Bool → List (List ℕ) → List (List ℕ)
+addToLines b lf ls = cond (eqb b LF) ([] ∷ ls) (cond (eqb b CR && lf) ls (widenLine b ls))
+
+-- "Lines end in LF; one CR just before it is dropped; the last line may lack LF. [..] nothing after a final LF is a line."
+unfoldable pub linesOf : List ℕ → List (List ℕ)
+linesOf [] = []
+linesOf (b ∷ rest) = addToLines b (startsLF rest) (linesOf rest)
+
+-- "line at most 80 bytes without its end", "Other bytes are 32 to 126": how many legal bytes stand at a line's front, at most n
+unfoldable pub legalFront : ℕ → List ℕ → ℕ
+legalFront n [] = 0
+legalFront zero (b ∷ rest) = 0
+legalFront (suc n) (b ∷ rest) = cond (between 32 126 b) (suc (legalFront n rest)) 0
+
+-- ---- fields
+
+-- a field and the column of its first byte, from 1
+pub record Field : Type 0 where
+  pub column : ℕ
+  pub text : List ℕ
+
+-- does the text start with a byte that is no space
+unfoldable pub startsField : List ℕ → Bool
+startsField [] = false
+startsField (b ∷ rest) = not (eqb b space)
+
+-- a byte in front of the first field
+unfoldable pub widenField : ℕ → ℕ → List Field → List Field
+widenField c b [] = record { column = c; text = b ∷ [] } ∷ []
+widenField c b (f ∷ fs) = record { column = c; text = b ∷ f .text } ∷ fs
+
+-- a byte at column c in front of a text with these fields
+unfoldable pub addToFields : ℕ → ℕ → Bool → List Field → List Field
+addToFields c b more fs =
+    cond (eqb b space) fs (cond more (widenField c b fs) (record { column = c; text = b ∷ [] } ∷ fs))
+
+-- "Fields are parted by spaces": the fields of a text whose first byte stands at column c
+unfoldable pub fieldsFrom : ℕ → List ℕ → List Field
+fieldsFrom c [] = []
+fieldsFrom c (b ∷ rest) = addToFields c b (startsField rest) (fieldsFrom (c + 1) rest)
+
+-- the fields of a line
+unfoldable pub fieldsOf : List ℕ → List Field
+fieldsOf line = fieldsFrom 1 line
+
+-- ---- numbers
+
+abbrev pub isOctal : ℕ → Bool
+isOctal b = between 48 55 b
+
+-- the value of octal digits, the first highest, after v
+unfoldable pub octal : ℕ → List ℕ → ℕ
+octal v [] = v
+octal v (d ∷ ds) = octal (v * 8 + (d - 48)) ds
+
+-- "Numbers in files are octal, one to six digits, at most 177777 (65,535)."
+unfoldable pub isNumber : List ℕ → Bool
+isNumber ds = between 1 6 (length ds) && (all isOctal ds && leb (octal 0 ds) 0o177777)
+
+unfoldable pub numberOf : List ℕ → Option ℕ
+numberOf ds = cond (isNumber ds) (some (octal 0 ds)) none
+
+-- ---- names
+
+abbrev pub isLetter : ℕ → Bool
+isLetter b = between 65 90 b
+
+abbrev pub isLetterOrDigit : ℕ → Bool
+isLetterOrDigit b = isLetter b || between 48 57 b
+
+-- "Names are 1 to 6 characters, A to Z and 0 to 9, the first a letter."
+unfoldable pub isName : List ℕ → Bool
+isName cs = between 1 6 (length cs) && (isLetter (getD cs 0 0) && all isLetterOrDigit cs)
+
+-- A name is kept as one number: its six bytes in base 256, the first highest, 0 where it is shorter.
+unfoldable pub packName : List ℕ → ℕ
+packName cs =
+    ((((getD cs 0 0 * 256 + getD cs 1 0) * 256 + getD cs 2 0) * 256 + getD cs 3 0) * 256 + getD cs 4 0) * 256 + getD cs 5 0
+
+unfoldable pub nameOf : List ℕ → Option ℕ
+nameOf cs = cond (isName cs) (some (packName cs)) none
+
+-- the bytes up to the first 0
+unfoldable pub upToZero : List ℕ → List ℕ
+upToZero [] = []
+upToZero (b ∷ rest) = let r = upToZero rest in cond (eqb b 0) [] (b ∷ r)
+
+-- the characters of a packed name
+unfoldable pub unpackName : ℕ → List ℕ
+unpackName n =
+    upToZero
+    (n / 256 ^ 5 % 256
+    ∷ n / 256 ^ 4 % 256
+    ∷ n / 256 ^ 3 % 256
+    ∷ n / 256 ^ 2 % 256
+    ∷ n / 256 % 256
+    ∷ n % 256
+    ∷ [])
+
+-- is the number a legal name's
+unfoldable pub isPacked : ℕ → Bool
+isPacked n = isName (unpackName n) && eqb (packName (unpackName n)) n
