@@ -7,3 +7,4 @@ pub mod Search
 pub mod Load
 pub mod Image
 pub mod Calls
+pub mod Demand
