@@ -1,68 +1,41 @@
--- Tests over lists: what their truth says, and how it is shown.
-use Prim.Native.Nat.{ℕ, zero, suc}
-use mathlib.Core.Bool.{Bool, true, false, cond, not, _&&_, _||_, true≢false, false≢true}
-use mathlib.Core.List.{List, [], _∷_, _++_, map}
-use mathlib.Core.Path.{_≡_, refl, sym, ap, _∙_}
-use lib.ListN.{length, getD, set}
-use Rattle.rules.specs.Text.{all, any}
+-- Tests and choices, over plain Booleans, and the places of a list.
+use Prim.Native.Nat.{ℕ, zero, suc, _<_}
+use native.Mathlib.Omega.{arith}
+use mathlib.Core.Bool.{Bool, true, false, cond, _&&_, _||_}
+use mathlib.Core.List.{List, [], _∷_}
+use mathlib.Core.Logic.{_⊎_, inl, inr}
+use mathlib.Core.Option.{none, some}
+use mathlib.Core.Path.{_≡_, refl}
+use lib.ListN.{length, getElem?}
 
-pub and-intro : {a b : Bool} → a ≡ true → b ≡ true → (a && b) ≡ true
-and-intro p q = simp (p, q)
+-- what holds of both choices, each under its test, holds of the choice
+pub cond-cases : {A : Type 0} (Q : A → Type 0) (b : Bool) (x y : A) → (b ≡ true → Q x) → (b ≡ false → Q y) →
+    Q (cond b x y)
+cond-cases Q true x y f g = f refl
+cond-cases Q false x y f g = g refl
 
-pub and-left : (a b : Bool) → (a && b) ≡ true → a ≡ true
-and-left true b e = refl
-and-left false b e = e
+-- nothing is both true and false
+pub never : {A : Type 0} {b : Bool} → b ≡ true → b ≡ false → A
+never p q = absurd (let z : _≡_ {A = ℕ} 0 1 = cc in omega arith)
 
-pub and-right : (a b : Bool) → (a && b) ≡ true → b ≡ true
-and-right true b e = e
-and-right false b e = absurd (false≢true e)
+pub never-none : {A B : Type 0} {x : A} → none ≡ some x → B
+never-none e = absurd (let z : _≡_ {A = ℕ} 0 1 = cc in omega arith)
 
-pub or-left : (a b : Bool) → (a || b) ≡ false → a ≡ false
-or-left true b e = e
-or-left false b e = refl
+-- what a test of two parts tells of them
+pub or-on : (a b : Bool) → (a || b) ≡ true → (a ≡ true) ⊎ (b ≡ true)
+or-on true b e = inl refl
+or-on false b e = inr e
 
-pub or-right : (a b : Bool) → (a || b) ≡ false → b ≡ false
-or-right true b e = absurd (true≢false e)
-or-right false b e = e
+pub or-off : (a b : Bool) → (a || b) ≡ false → (a ≡ false) × (b ≡ false)
+or-off true b e = never refl e
+or-off false b e = (refl, e)
 
--- what holds of both arms holds of the choice
-pub cond-keeps {ℓ} : {A : Type ℓ} (p : A → Bool) (b : Bool) {x y : A} → p x ≡ true → p y ≡ true → p (cond b x y) ≡ true
-cond-keeps p true hx hy = hx
-cond-keeps p false hx hy = hy
+pub and-on : (a b : Bool) → (a && b) ≡ true → (a ≡ true) × (b ≡ true)
+and-on true b e = (refl, e)
+and-on false b e = never e refl
 
-module _ {ℓ} {A : Type ℓ} (p : A → Bool) where
-  pub all-head : (x : A) (xs : List A) → all p (x ∷ xs) ≡ true → p x ≡ true
-  unfolding all
-  all-head x xs h = and-left (p x) (all p xs) h
-
-  pub all-tail : (x : A) (xs : List A) → all p (x ∷ xs) ≡ true → all p xs ≡ true
-  unfolding all
-  all-tail x xs h = and-right (p x) (all p xs) h
-
-  pub all-cons : (x : A) (xs : List A) → p x ≡ true → all p xs ≡ true → all p (x ∷ xs) ≡ true
-  unfolding all
-  all-cons x xs h hs = and-intro h hs
-
-  pub all-append : (xs ys : List A) → all p xs ≡ true → all p ys ≡ true → all p (xs ++ ys) ≡ true
-  all-append [] ys h k = k
-  all-append (x ∷ xs) ys h k = all-cons x (xs ++ ys) (all-head x xs h) (all-append xs ys (all-tail x xs h) k)
-
-  pub all-set : (l : List A) (i : ℕ) (a : A) → all p l ≡ true → p a ≡ true → all p (set l i a) ≡ true
-  all-set [] i a h k = h
-  all-set (x ∷ l) zero a h k = all-cons a l k (all-tail x l h)
-  all-set (x ∷ l) (suc i) a h k = all-cons x (set l i a) (all-head x l h) (all-set l i a (all-tail x l h) k)
-
-  pub any-head : (x : A) (xs : List A) → any p (x ∷ xs) ≡ false → p x ≡ false
-  unfolding any
-  any-head x xs h = or-left (p x) (any p xs) h
-
-  pub any-tail : (x : A) (xs : List A) → any p (x ∷ xs) ≡ false → any p xs ≡ false
-  unfolding any
-  any-tail x xs h = or-right (p x) (any p xs) h
-
--- a test that implies another
-pub all-weaken {ℓ} : {A : Type ℓ} (p q : A → Bool) → ((x : A) → p x ≡ true → q x ≡ true) → (l : List A) → all p l ≡ true → all q l ≡ true
-unfolding all
-all-weaken p q f [] h = refl
-all-weaken p q f (x ∷ l) h =
-    all-cons q x l (f x (all-head p x l h)) (all-weaken p q f l (all-tail p x l h))
+-- an element of a list stands inside it
+pub inside : {A : Type 0} (xs : List A) (i : ℕ) {x : A} → getElem? xs i ≡ some x → i < length xs
+inside [] i e = never-none e
+inside (y ∷ xs) zero e = omega arith
+inside (y ∷ xs) (suc i) e = omega (arith, inside xs i e)

@@ -13,7 +13,7 @@ use Rattle.rules.specs.State.{Symbol, Word, unplaced, plain, refers, isP
 use Rattle.rules.specs.Placing.{Code, linked, putAll, clash}
 use Rattle.rules.specs.declared.line.Relocation.{Relocation}
 use Rattle.rules.specs.declared.line.Relocation.the-variants.{Plain, External, Unread}
-use Rattle.rules.proofs.BoolLaws.{or-left, or-right, all-head, all-tail}
+use Rattle.rules.proofs.AllLaws.{or-left, or-right, all-head, all-tail}
 
 -- one word more
 count-set : (ws : List Word) (i : ℕ) (w : Word)

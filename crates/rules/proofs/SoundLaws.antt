@@ -15,7 +15,7 @@ use Rattle.rules.specs.Placing.{Code, entries, externals, code, moduleLe
 use Rattle.rules.specs.declared.line.Entry.{Entry}
 use Rattle.rules.specs.declared.line.Relocation.{Relocation}
 use Rattle.rules.specs.declared.line.Relocation.the-variants.{Plain, External, Unread}
-use Rattle.rules.proofs.BoolLaws.{and-intro, and-left, and-right, or-left, or-right, cond-keeps, all-head, all-tail, all-cons, all-set, all-weaken, any-head, any-tail}
+use Rattle.rules.proofs.AllLaws.{and-intro, and-left, and-right, or-left, or-right, cond-keeps, all-head, all-tail, all-cons, all-set, all-weaken, any-head, any-tail}
 
 -- ---- a sound state, fact by fact
 
