@@ -1,10 +1,13 @@
 -- Tests over lists: what their truth says, and how it is shown.
-use Prim.Native.Nat.{ℕ, zero, suc}
+use Prim.Native.Nat.{ℕ, zero, suc, _≤_}
 use mathlib.Core.Bool.{Bool, true, false, cond, not, _&&_, _||_, true≢false, false≢true}
 use mathlib.Core.List.{List, [], _∷_, _++_, map}
 use mathlib.Core.Path.{_≡_, refl, sym, ap, _∙_}
 use lib.ListN.{length, getD, set}
-use Rattle.rules.specs.Text.{all, any}
+use lib.Dec.{leb}
+use borrow.Author.Tests.{leb-true, le-leb}
+use native.Mathlib.Omega.{arith}
+use Rattle.rules.specs.Text.{all, any, between}
 
 pub and-intro : {a b : Bool} → a ≡ true → b ≡ true → (a && b) ≡ true
 and-intro p q = simp (p, q)
@@ -66,3 +69,10 @@ unfolding all
 all-weaken p q f [] h = refl
 all-weaken p q f (x ∷ l) h =
     all-cons q x l (f x (all-head p x l h)) (all-weaken p q f l (all-tail p x l h))
+
+-- wider bounds
+pub between-wider : (a b c d n : ℕ) → c ≤ a → b ≤ d → between a b n ≡ true → between c d n ≡ true
+between-wider a b c d n l h e =
+    let low : a ≤ n = leb-true a n (and-left (leb a n) (leb n b) e) in
+    let high : n ≤ b = leb-true n b (and-right (leb a n) (leb n b) e) in
+    and-intro (le-leb c n (omega arith)) (le-leb n d (omega arith))

@@ -24,7 +24,7 @@ use Rattle.rules.proofs.AllLaws.{cond-keeps}
 
 -- ---- reading
 
-pub stepNumber : Step → Bool
+unfoldable pub stepNumber : Step → Bool
 stepNumber (Stop k c) = between 6 8 k
 stepNumber (Next m) = true
 stepNumber (Add m p) = true
@@ -63,7 +63,7 @@ step-number n m Ignored = refl
 step-number n m (Parameter size) = refl
 step-number n m Sub = refl
 
-pub readingNumber : Reading → Bool
+unfoldable pub readingNumber : Reading → Bool
 readingNumber Complete = true
 readingNumber (Stopped k n c) = between 6 8 k
 
@@ -94,7 +94,7 @@ reading-number file = read-number 1 atStart _
 
 -- ---- placing
 
-pub placingNumber : ℕ → Bool
+unfoldable pub placingNumber : ℕ → Bool
 placingNumber k = eqb k 0 || between 9 14 k
 
 pub placing-number : (s : State) (m : Module) → placingNumber (placingFault s m) ≡ true
