@@ -8,3 +8,4 @@ pub mod Load
 pub mod Image
 pub mod Calls
 pub mod Demand
+pub mod History
