@@ -1,12 +1,15 @@
 -- Tests and choices, over plain Booleans, and the places of a list.
 use Prim.Native.Nat.{ℕ, zero, suc, _<_}
 use native.Mathlib.Omega.{arith}
-use mathlib.Core.Bool.{Bool, true, false, cond, _&&_, _||_}
-use mathlib.Core.List.{List, [], _∷_}
+use mathlib.Core.Bool.{Bool, true, false, cond, _&&_, _||_, or-true}
+use mathlib.Core.List.{List, [], _∷_, map}
 use mathlib.Core.Logic.{_⊎_, inl, inr}
 use mathlib.Core.Option.{none, some}
-use mathlib.Core.Path.{_≡_, refl}
+use mathlib.Core.Path.{_≡_, refl, sym}
 use lib.ListN.{length, getElem?}
+use lib.Dec.{eqb}
+use borrow.Author.Tests.{eqb-true, eqb-false, eq-eqb, ne-eqb}
+use Rattle.rules.specs.Text.{any}
 
 -- what holds of both choices, each under its test, holds of the choice
 pub cond-cases : {A : Type 0} (Q : A → Type 0) (b : Bool) (x y : A) → (b ≡ true → Q x) → (b ≡ false → Q y) →
@@ -39,3 +42,41 @@ pub inside : {A : Type 0} (xs : List A) (i : ℕ) {x : A} → getElem? xs i ≡ 
 inside [] i e = never-none e
 inside (y ∷ xs) zero e = omega arith
 inside (y ∷ xs) (suc i) e = omega (arith, inside xs i e)
+
+-- ---- tests of numbers
+
+pub eqb-same : (a : ℕ) → eqb a a ≡ true
+eqb-same a = eq-eqb a a refl
+
+pub eqb-comm : (a b : ℕ) → eqb a b ≡ eqb b a
+eqb-comm a b = go (eqb a b) refl
+  where
+    go : (t : Bool) → eqb a b ≡ t → t ≡ eqb b a
+    go true e = sym (eq-eqb b a (sym (eqb-true a b e)))
+    go false e = sym (ne-eqb b a (λ q. eqb-false a b e (sym q)))
+
+-- ---- some element passes a test
+
+pub any-at : {A : Type 0} (p : A → Bool) (xs : List A) (i : ℕ) (x : A) → getElem? xs i ≡ some x → p x ≡ true →
+    any p xs ≡ true
+unfolding any
+any-at p [] i x e h = never-none e
+any-at p (y ∷ xs) zero x e h = let same : y ≡ x = cc in rw (same, h)
+any-at p (y ∷ xs) (suc i) x e h = rw (any-at p xs i x e h) (or-true (p y))
+
+pub any-in : {A : Type 0} (p : A → Bool) (xs : List A) → any p xs ≡ true →
+    (i : ℕ) × (x : A) × (getElem? xs i ≡ some x) × (p x ≡ true)
+unfolding any
+any-in {A} p [] h = never h refl
+any-in {A} p (y ∷ xs) h = go (p y) refl h (any-in p xs)
+  where
+    go : (b : Bool) → p y ≡ b → (b || any p xs) ≡ true →
+        (any p xs ≡ true → (i : ℕ) × (x : A) × (getElem? xs i ≡ some x) × (p x ≡ true)) →
+        (i : ℕ) × (x : A) × (getElem? (y ∷ xs) i ≡ some x) × (p x ≡ true)
+    go true e h ih = (0, y, refl, e)
+    go false e h ih = let r = ih h in (suc (r .0), r .1, r .2, r .3)
+
+pub any-map : {A B : Type 0} (p : B → Bool) (f : A → B) (xs : List A) → any p (map f xs) ≡ any (λ x. p (f x)) xs
+unfolding any
+any-map p f [] = refl
+any-map p f (x ∷ xs) = rw (any-map p f xs)

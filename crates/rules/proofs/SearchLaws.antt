@@ -1,5 +1,5 @@
--- The search of specs/Search.antt, whatever a module wants and whatever placing it does: what every taking keeps, the end
--- is quiet, and how many rounds there are.
+-- The search of specs/Search.antt, whatever a module wants and whatever placing it does: what every taking keeps, that
+-- the end is quiet, and how many rounds there are.
 use Prim.Native.Nat.{ℕ, zero, suc, _+_, _≤_, _<_}
 use native.Mathlib.Omega.{arith}
 use native.Mathlib.Nat.{zero-add, add-zero}
@@ -25,7 +25,8 @@ pub count-most : (t : Places) (n : ℕ) → count t n ≤ n
 unfolding count
 count-most t zero = omega arith
 count-most t (suc n) =
-    cond-cases (λ k. k + count t n ≤ suc n) (t n) 1 0 (λ _. omega (arith, count-most t n)) λ _. omega (arith, count-most t n)
+    let ih = count-most t n in
+    cond-cases (λ k. k + count t n ≤ suc n) (t n) 1 0 (λ _. omega arith) (λ _. omega arith)
 
 pub count-nowhere : (n : ℕ) → count nowhere n ≡ 0
 unfolding count nowhere
@@ -65,7 +66,8 @@ module _ {M X : Type 0} (wants : X → M → Bool) (place : X → M → X) where
   abbrev pub Keeps : (Sweep X → Type 0) → ℕ → M → Type 0
   Keeps P i m = (r : Sweep X) → r .taken i ≡ false → wants (r .now) m ≡ true → P r → P (taking i m r)
 
-  pub visit-keeps : (P : Sweep X → Type 0) (i : ℕ) (m : M) → Keeps P i m → (r : Sweep X) → P r → P (visit wants place i m r)
+  pub visit-keeps : (P : Sweep X → Type 0) (i : ℕ) (m : M) → Keeps P i m → (r : Sweep X) → P r →
+      P (visit wants place i m r)
   unfolding visit
   visit-keeps P i m step r p =
       cond-cases P (r .taken i || not (wants (r .now) m)) _ _ (λ _. p) λ e.
@@ -218,9 +220,11 @@ module _ {M X : Type 0} (wants : X → M → Bool) (place : X → M → X) where
   rounds-most ms zero t x = omega arith
   rounds-most ms (suc fuel) t x =
       let r = round wants place ms t x in
-      cond-cases (λ (f : Found X). f .rounds + count t (length ms) ≤ count (f .taken) (length ms) + 1) (eqb (r .took) 0) _ _
-      (λ _. omega (arith, round-took ms t x))
-      (λ e. omega (arith, round-took ms t x, eqb-false (r .took) 0 e, rounds-most ms fuel (r .taken) (r .now)))
+      let took = round-took ms t x in
+      cond-cases (λ (f : Found X). f .rounds + count t (length ms) ≤ count (f .taken) (length ms) + 1)
+      (eqb (r .took) 0) _ _
+      (λ _. omega arith)
+      (λ e. omega (arith, eqb-false (r .took) 0 e, rounds-most ms fuel (r .taken) (r .now)))
 
   pub search-most : (ms : List M) (x : X) →
       let f = search wants place ms x in f .rounds ≤ count (f .taken) (length ms) + 1
