@@ -14,17 +14,18 @@ use Rattle.rules.proofs.TestLaws.{and-intro, and-left, and-right, betwe
 
 -- ---- numbers
 
+-- a choice that gave something passed its test
+chosen : (t : Bool) (x y : ℕ) → cond t (some x) none ≡ some y → (t ≡ true) × (x ≡ y)
+chosen true x y e = (refl, cc)
+chosen false x y e = let z : _≡_ {A = ℕ} 0 1 = cc in absurd (omega arith)
+
 -- a number of a file is at most 65,535
 pub number-bound : (ds : List ℕ) (n : ℕ) → numberOf ds ≡ some n → n ≤ 65535
 unfolding numberOf isNumber
-number-bound ds n e = go (isNumber ds) refl e
-  where
-    go : (t : Bool) → isNumber ds ≡ t → cond t (some (octal 0 ds)) none ≡ some n → n ≤ 65535
-    go true h e =
-        let small = leb-true (octal 0 ds) 65535 (and-right (all isOctal ds) _ (and-right (between 1 6 (length ds)) _ h)) in
-        let same : octal 0 ds ≡ n = cc in
-        omega arith
-    go false h e = let z : _≡_ {A = ℕ} 0 1 = cc in omega arith
+number-bound ds n e =
+    let c = chosen (isNumber ds) (octal 0 ds) n e in
+    let small = leb-true (octal 0 ds) 65535 (and-right (all isOctal ds) _ (and-right (between 1 6 (length ds)) _ (c .0))) in
+    rw (c .1) at small
 
 -- ---- the bytes of a name
 
@@ -123,11 +124,7 @@ pack-legal cs h = rw unpack-pack (and-intro h (eq-eqb (packName cs) (packName cs
 
 pub name-legal : (cs : List ℕ) (x : ℕ) → nameOf cs ≡ some x → isPacked x ≡ true
 unfolding nameOf
-name-legal cs x e = go (isName cs) refl e
-  where
-    go : (t : Bool) → isName cs ≡ t → cond t (some (packName cs)) none ≡ some x → isPacked x ≡ true
-    go true h e = let same : packName cs ≡ x = cc in rw same at (pack-legal cs h)
-    go false h e = let z : _≡_ {A = ℕ} 0 1 = cc in absurd (omega arith)
+name-legal cs x e = let c = chosen (isName cs) (packName cs) x e in rw (c .1) at (pack-legal cs (c .0))
 
 -- the number of six bytes, the first a letter
 pack-range : (cs : List ℕ) → NameText cs → (packName cs < 2 ^ 48) × (packName cs ≢ 0)

@@ -46,3 +46,8 @@ module _ {ℓ} {A : Type ℓ} where
   all-at p [] i d h l = absurd (not-suc-le-zero l)
   all-at p (x ∷ xs) zero d h l = and-left (p x) (all p xs) h
   all-at p (x ∷ xs) (suc i) d h l = all-at p xs i d (and-right (p x) (all p xs) h) (le-of-suc-le-suc l)
+
+-- something that holds of every element
+abbrev pub Every {ℓ} : {A : Type ℓ} → (A → Type 0) → List A → Type 0
+Every P [] = Unit {0}
+Every P (x ∷ xs) = P x × Every P xs
