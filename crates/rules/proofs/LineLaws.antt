@@ -25,7 +25,7 @@ use Rattle.rules.specs.declared.line.Wanted.{Wanted}
 use Rattle.rules.specs.declared.line.Wanted.the-variants.{AnyHeader, OpeningTitle, ClosingTitle, CodeRecord, EntryRecord, ExternalRecord, DataRecord, InitRecord, ParameterRecord, SubRecord}
 use Rattle.rules.specs.declared.line.LineAnswer.{LineAnswer}
 use Rattle.rules.specs.declared.line.LineAnswer.the-variants.{Bad, Blank, Head, Opening, Closing, Code, Entered, Mentioned, Ignored, Parameter, Sub}
-use Rattle.rules.proofs.TestLaws.{Every, and-intro, and-left, and-right, between-intro, between-low, between-high}
+use Rattle.rules.proofs.TestLaws.{and-intro, and-left, and-right, between-intro, between-low, between-high}
 use Rattle.rules.proofs.NameLaws.{name-legal}
 
 -- ---- the tests
@@ -104,7 +104,7 @@ pub data Told : Wanted → LineAnswer → Type 0 where
   head : {h : Header} → legalHeader h ≡ true → Told AnyHeader (Head h)
   opening : {t : ℕ} → isPacked t ≡ true → Told OpeningTitle (Opening t)
   closing : {t : ℕ} → isPacked t ≡ true → Told ClosingTitle (Closing t)
-  code : {c : CodeWord} → legalWord c ≡ true → Told CodeRecord (Code c)
+  coded : {c : CodeWord} → legalWord c ≡ true → Told CodeRecord (Code c)
   entered : {e : Entry} → legalEntry e ≡ true → Told EntryRecord (Entered e)
   mentioned : {x : ℕ} → isPacked x ≡ true → Told ExternalRecord (Mentioned x)
   dataRead : Told DataRecord Ignored
@@ -200,54 +200,41 @@ bounded {low} {high} {v} h = le-leb v high (h .1)
 abbrev RowLegal : Row → Type 0
 RowLegal r = (vs : List ℕ) → Values (Anything ∷ r .fields ++ (Marker (r .code) ∷ [])) vs → legalHeader (r .says vs) ≡ true
 
+infixr 20 _also_
+data RowsLegal : List Row → Type 0 where
+  none-left : RowsLegal []
+  _also_ : {r : Row} {rs : List Row} → RowLegal r → RowsLegal rs → RowsLegal (r ∷ rs)
+
 abbrev FoundLegal : Option Row → Type 0
 FoundLegal none = Unit {0}
 FoundLegal (some r) = RowLegal r
 
-row-in : (rs : List Row) → Every RowLegal rs → (c : ℕ) → FoundLegal (rowIn rs c)
+row-in : {rs : List Row} → RowsLegal rs → (c : ℕ) → FoundLegal (rowIn rs c)
 unfolding rowIn
-row-in [] h c = tt
-row-in (r ∷ rs) h c =
-    elim (eqb (r .code) c) as (λ t. FoundLegal (cond t (some r) (rowIn rs c))) [ true ↦ h .0 | false ↦ row-in rs (h .1) c ]
+row-in none-left c = tt
+row-in (_also_ {r} {rs} h t) c =
+    elim (eqb (r .code) c) as (λ t. FoundLegal (cond t (some r) (rowIn rs c))) [ true ↦ h | false ↦ row-in t c ]
 
-headers-legal : Every RowLegal headers
+headers-legal : RowsLegal headers
 unfolding headers legalHeader
-headers-legal = (
-  λ vs at. and-intro (bounded (at 1)) (bounded (at 2)),
-  (
-    λ vs at. refl,
-    (
-      λ vs at. refl,
-      (
-        λ vs at. bounded (at 1),
-        (
-          λ vs at. bounded (at 1),
-          (
-            λ vs at. refl,
-            (
-              λ vs at. refl,
-              (
-                λ vs at. bounded (at 1),
-                (
-                  λ vs at. bounded (at 1),
-                  (
-                    λ vs at. bounded (at 1),
-                    (λ vs at. bounded (at 1), tt),
-                  ),
-                ),
-              ),
-            ),
-          ),
-        ),
-      ),
-    ),
-  ),
-)
+headers-legal =
+    (λ vs at. and-intro (bounded (at 1)) (bounded (at 2)))
+    also (λ vs at. refl)
+    also (λ vs at. refl)
+    also (λ vs at. bounded (at 1))
+    also (λ vs at. bounded (at 1))
+    also (λ vs at. refl)
+    also (λ vs at. refl)
+    also (λ vs at. bounded (at 1))
+    also (λ vs at. bounded (at 1))
+    also (λ vs at. bounded (at 1))
+    also (λ vs at. bounded (at 1))
+    also none-left
 
 row-at : (o : Option ℕ) → FoundLegal (rowAt o)
 unfolding rowAt rowOf
 row-at none = tt
-row-at (some c) = row-in headers headers-legal c
+row-at (some c) = row-in headers-legal c
 
 say-header : (end : ℕ) (fs : List Field) (r : Option Row) → FoundLegal r → Told AnyHeader (sayHeader end fs r)
 unfolding sayHeader
@@ -278,8 +265,8 @@ code-told : (end : ℕ) (fs : List Field) → Told CodeRecord (codeLine end fs)
 unfolding codeLine legalWord legalRelocation
 code-told end fs =
     either CodeRecord (starred fs)
-    (said-told CodeRecord _ _ (λ vs at. code (and-intro (word-bound (at 1 .1) (at 2 .1) (at 3 .1) (at 4 .1)) (relocation-legal (nth vs 6) (nth vs 7) (at 6) (bounded (at 7))))) end fs)
-    (said-told CodeRecord _ _ (λ vs at. code (and-intro (word-bound (at 0 .1) (at 1 .1) (at 2 .1) (at 3 .1)) refl)) end fs)
+    (said-told CodeRecord _ _ (λ vs at. coded (and-intro (word-bound (at 1 .1) (at 2 .1) (at 3 .1) (at 4 .1)) (relocation-legal (nth vs 6) (nth vs 7) (at 6) (bounded (at 7))))) end fs)
+    (said-told CodeRecord _ _ (λ vs at. coded (and-intro (word-bound (at 0 .1) (at 1 .1) (at 2 .1) (at 3 .1)) refl)) end fs)
 
 entry-told : (end : ℕ) (fs : List Field) → Told EntryRecord (entryLine end fs)
 unfolding entryLine legalEntry
@@ -325,7 +312,7 @@ told-tests blank = refl
 told-tests (head h) = h
 told-tests (opening h) = h
 told-tests (closing h) = h
-told-tests (code h) = h
+told-tests (coded h) = h
 told-tests (entered h) = h
 told-tests (mentioned h) = h
 told-tests dataRead = refl
