@@ -1,0 +1,356 @@
+-- Laws of lines (specs/Line.antt): which answers a line can give, by what was wanted of it, and within which bounds.
+use Prim.Native.Nat.{ℕ, zero, suc, _+_, _^_, _<_, _≤_}
+use mathlib.Core.Bool.{Bool, true, false, cond, _&&_, _||_}
+use mathlib.Core.List.{List, [], _∷_, _++_}
+use mathlib.Core.Option.{Option, none, some}
+use mathlib.Core.Path.{_≡_, refl}
+use native.Mathlib.Omega.{arith}
+use lib.ListN.{length, getD}
+use lib.Dec.{eqb, leb, ltb}
+use borrow.Author.Tests.{leb-true, le-leb, lt-ltb, ltb-true, eqb-false}
+use Rattle.rules.specs.Text.{Field, fieldsOf, numberOf, nameOf, between, isPacked}
+use Rattle.rules.specs.Line.{nth, Row, headers, rowIn, rowOf, Held, value, wrong, held, inBounds, readField, Fitted, fits, misfit, inFront, fit, said, sayHeader, rowAt, firstText, headerLine, sameText, markerOf, wordOf, relocationOf, starred, codeLine, isOne, textAt, entryLine, fieldsSay, lineOf, faultWithin, testBytes, lineAnswer}
+use Rattle.rules.specs.declared.line.FaultKind.{FaultKind}
+use Rattle.rules.specs.declared.line.FaultKind.the-variants.{BadMarker, BadNumber, BadName}
+use Rattle.rules.specs.declared.line.Fault.{Fault}
+use Rattle.rules.specs.declared.line.Kind.{Kind}
+use Rattle.rules.specs.declared.line.Kind.the-variants.{Number, Name, Anything, Marker}
+use Rattle.rules.specs.declared.line.Relocation.{Relocation}
+use Rattle.rules.specs.declared.line.Relocation.the-variants.{Plain, External, Unread}
+use Rattle.rules.specs.declared.line.CodeWord.{CodeWord}
+use Rattle.rules.specs.declared.line.Entry.{Entry}
+use Rattle.rules.specs.declared.line.Header.{Header}
+use Rattle.rules.specs.declared.line.Header.the-variants.{CodeBlock, EndBlock, TitleBlock, EntryBlock, ExternalBlock, LibraryStart, LibraryEnd, DataBlock, InitBlock, ParameterBlock}
+use Rattle.rules.specs.declared.line.Wanted.{Wanted}
+use Rattle.rules.specs.declared.line.Wanted.the-variants.{AnyHeader, OpeningTitle, ClosingTitle, CodeRecord, EntryRecord, ExternalRecord, DataRecord, InitRecord, ParameterRecord, SubRecord}
+use Rattle.rules.specs.declared.line.LineAnswer.{LineAnswer}
+use Rattle.rules.specs.declared.line.LineAnswer.the-variants.{Bad, Blank, Head, Opening, Closing, Code, Entered, Mentioned, Ignored, Parameter, Sub}
+use Rattle.rules.proofs.TestLaws.{and-intro, and-left, and-right, between-intro, between-low, between-high}
+use Rattle.rules.proofs.NameLaws.{name-legal}
+
+-- ---- the tests
+
+-- the bounds of what a line can say
+unfoldable pub legalEntry : Entry → Bool
+legalEntry e = isPacked (e .name) && (leb (e .value) 65535 && leb (e .parameters) 65535)
+
+unfoldable pub legalRelocation : Relocation → Bool
+legalRelocation Plain = true
+legalRelocation (External k) = leb k 65535
+legalRelocation (Unread type) = between 1 4 type
+
+unfoldable pub legalWord : CodeWord → Bool
+legalWord w = ltb (w .text) (2 ^ 64) && legalRelocation (w .relocation)
+
+unfoldable pub legalHeader : Header → Bool
+legalHeader (CodeBlock count offset) = leb count 65535 && leb offset 65535
+legalHeader EndBlock = true
+legalHeader TitleBlock = true
+legalHeader (EntryBlock count) = leb count 65535
+legalHeader (ExternalBlock count) = leb count 65535
+legalHeader LibraryStart = true
+legalHeader LibraryEnd = true
+legalHeader (DataBlock count) = leb count 65535
+legalHeader (InitBlock count) = leb count 65535
+legalHeader (ParameterBlock count) = leb count 65535
+
+unfoldable pub legalAnswer : LineAnswer → Bool
+legalAnswer (Bad f) = true
+legalAnswer Blank = true
+legalAnswer (Head h) = legalHeader h
+legalAnswer (Opening t) = isPacked t
+legalAnswer (Closing t) = isPacked t
+legalAnswer (Code w) = legalWord w
+legalAnswer (Entered e) = legalEntry e
+legalAnswer (Mentioned x) = isPacked x
+legalAnswer Ignored = true
+legalAnswer (Parameter size) = leb size 7
+legalAnswer Sub = true
+
+-- what can be wanted, numbered
+unfoldable pub wantedNumber : Wanted → ℕ
+wantedNumber AnyHeader = 0
+wantedNumber OpeningTitle = 1
+wantedNumber ClosingTitle = 2
+wantedNumber CodeRecord = 3
+wantedNumber EntryRecord = 4
+wantedNumber ExternalRecord = 5
+wantedNumber DataRecord = 6
+wantedNumber InitRecord = 7
+wantedNumber ParameterRecord = 8
+wantedNumber SubRecord = 9
+
+unfoldable pub isWanted : Wanted → Wanted → Bool
+isWanted v w = eqb (wantedNumber v) (wantedNumber w)
+
+-- which answers can come where w is wanted
+unfoldable pub fitsWanted : Wanted → LineAnswer → Bool
+fitsWanted w (Bad f) = true
+fitsWanted w Blank = true
+fitsWanted w (Head h) = isWanted AnyHeader w
+fitsWanted w (Opening t) = isWanted OpeningTitle w
+fitsWanted w (Closing t) = isWanted ClosingTitle w
+fitsWanted w (Code c) = isWanted CodeRecord w
+fitsWanted w (Entered e) = isWanted EntryRecord w
+fitsWanted w (Mentioned x) = isWanted ExternalRecord w
+fitsWanted w Ignored = isWanted DataRecord w || isWanted InitRecord w
+fitsWanted w (Parameter size) = isWanted ParameterRecord w
+fitsWanted w Sub = isWanted SubRecord w
+
+-- both at once, to be taken apart by cases: the answers that a line can give where w is wanted
+pub data Told : Wanted → LineAnswer → Type 0 where
+  bad : {w : Wanted} {f : Fault} → Told w (Bad f)
+  blank : {w : Wanted} → Told w Blank
+  head : {h : Header} → legalHeader h ≡ true → Told AnyHeader (Head h)
+  opening : {t : ℕ} → isPacked t ≡ true → Told OpeningTitle (Opening t)
+  closing : {t : ℕ} → isPacked t ≡ true → Told ClosingTitle (Closing t)
+  coded : {c : CodeWord} → legalWord c ≡ true → Told CodeRecord (Code c)
+  entered : {e : Entry} → legalEntry e ≡ true → Told EntryRecord (Entered e)
+  mentioned : {x : ℕ} → isPacked x ≡ true → Told ExternalRecord (Mentioned x)
+  dataRead : Told DataRecord Ignored
+  initRead : Told InitRecord Ignored
+  parameter : {size : ℕ} → leb size 7 ≡ true → Told ParameterRecord (Parameter size)
+  sub : Told SubRecord Sub
+
+-- ---- fields
+
+-- a value that a field of kind k can have
+abbrev Holds : Kind → ℕ → Type 0
+Holds (Number low high k) v = (low ≤ v) × (v ≤ high)
+Holds Name v = isPacked v ≡ true
+Holds Anything v = v ≡ 0
+Holds (Marker c) v = v ≡ 0
+
+abbrev HoldsIn : Kind → Held → Type 0
+HoldsIn k (value v) = Holds k v
+HoldsIn k (wrong j) = Unit {0}
+
+abbrev HoldAll : List Kind → List ℕ → Type 0
+HoldAll [] [] = Unit {0}
+HoldAll [] (v ∷ vs) = ⊥
+HoldAll (k ∷ ks) [] = ⊥
+HoldAll (k ∷ ks) (v ∷ vs) = Holds k v × HoldAll ks vs
+
+abbrev FitsIn : List Kind → Fitted → Type 0
+FitsIn ks (fits vs) = HoldAll ks vs
+FitsIn ks (misfit f) = Unit {0}
+
+in-bounds : (low high : ℕ) (j : FaultKind) (h : Held) → HoldsIn (Number low high j) (inBounds low high j h)
+unfolding inBounds
+in-bounds low high j (value v) = go (between low high v) refl
+  where
+    go : (t : Bool) → between low high v ≡ t → HoldsIn (Number low high j) (cond t (value v) (wrong j))
+    go true e = (between-low low high v e, between-high low high v e)
+    go false e = tt
+in-bounds low high j (wrong k) = tt
+
+read-field : (k : Kind) (f : List ℕ) → HoldsIn k (readField k f)
+unfolding readField held
+read-field (Number low high j) f = in-bounds low high j (held BadNumber (numberOf f))
+read-field Name f = go (nameOf f) refl
+  where
+    go : (o : Option ℕ) → nameOf f ≡ o → HoldsIn Name (held BadName o)
+    go none e = tt
+    go (some x) e = name-legal f x e
+read-field Anything f = refl
+read-field (Marker c) f = elim (sameText f (markerOf c)) as (λ t. HoldsIn (Marker c) (cond t (value 0) (wrong BadMarker))) [ true ↦ refl | false ↦ tt ]
+
+in-front : (c : ℕ) (k : Kind) (ks : List Kind) (h : Held) (r : Fitted) → HoldsIn k h → FitsIn ks r → FitsIn (k ∷ ks) (inFront c h r)
+unfolding inFront
+in-front c k ks (wrong j) r p q = tt
+in-front c k ks (value v) (misfit f) p q = tt
+in-front c k ks (value v) (fits vs) p q = (p, q)
+
+fit-holds : (end : ℕ) (ks : List Kind) (fs : List Field) → FitsIn ks (fit end ks fs)
+unfolding fit
+fit-holds end [] [] = tt
+fit-holds end [] (f ∷ fs) = tt
+fit-holds end (k ∷ ks) [] = tt
+fit-holds end (k ∷ ks) (f ∷ fs) =
+    in-front (f .column) k ks (readField k (f .text)) (fit end ks fs) (read-field k (f .text)) (fit-holds end ks fs)
+
+-- the value of each field is one of its kind
+abbrev Values : List Kind → List ℕ → Type 0
+Values ks vs = (i : ℕ) → Holds (getD ks i Anything) (nth vs i)
+
+values : (ks : List Kind) (vs : List ℕ) → HoldAll ks vs → Values ks vs
+values [] [] h i = refl
+values [] (v ∷ vs) h i = absurd h
+values (k ∷ ks) [] h i = absurd h
+values (k ∷ ks) (v ∷ vs) h zero = h .0
+values (k ∷ ks) (v ∷ vs) h (suc i) = values ks vs (h .1) i
+
+-- what is said of fields that fit is told, if it is told of all values of their kinds
+said-told : (w : Wanted) (ks : List Kind) (answer : List ℕ → LineAnswer) → ((vs : List ℕ) → Values ks vs → Told w (answer vs)) →
+    (end : ℕ) (fs : List Field) → Told w (said answer (fit end ks fs))
+unfolding said
+said-told w ks answer tells end fs = go (fit end ks fs) (fit-holds end ks fs)
+  where
+    go : (r : Fitted) → FitsIn ks r → Told w (said answer r)
+    go (fits vs) h = tells vs (values ks vs h)
+    go (misfit f) h = bad
+
+-- the value of a number field, as a test
+bounded : {low high v : ℕ} → (low ≤ v) × (v ≤ high) → leb v high ≡ true
+bounded {low} {high} {v} h = le-leb v high (h .1)
+
+-- ---- headers
+
+-- what a row of the table says is legal
+abbrev RowLegal : Row → Type 0
+RowLegal r = (vs : List ℕ) → Values (Anything ∷ r .fields ++ (Marker (r .code) ∷ [])) vs → legalHeader (r .says vs) ≡ true
+
+infixr 20 _also_
+data RowsLegal : List Row → Type 0 where
+  none-left : RowsLegal []
+  _also_ : {r : Row} {rs : List Row} → RowLegal r → RowsLegal rs → RowsLegal (r ∷ rs)
+
+abbrev FoundLegal : Option Row → Type 0
+FoundLegal none = Unit {0}
+FoundLegal (some r) = RowLegal r
+
+row-in : {rs : List Row} → RowsLegal rs → (c : ℕ) → FoundLegal (rowIn rs c)
+unfolding rowIn
+row-in none-left c = tt
+row-in (_also_ {r} {rs} h t) c =
+    elim (eqb (r .code) c) as (λ t. FoundLegal (cond t (some r) (rowIn rs c))) [ true ↦ h | false ↦ row-in t c ]
+
+headers-legal : RowsLegal headers
+unfolding headers legalHeader
+headers-legal =
+    (λ vs at. and-intro (bounded (at 1)) (bounded (at 2)))
+    also (λ vs at. refl)
+    also (λ vs at. refl)
+    also (λ vs at. bounded (at 1))
+    also (λ vs at. bounded (at 1))
+    also (λ vs at. refl)
+    also (λ vs at. refl)
+    also (λ vs at. bounded (at 1))
+    also (λ vs at. bounded (at 1))
+    also (λ vs at. bounded (at 1))
+    also (λ vs at. bounded (at 1))
+    also none-left
+
+row-at : (o : Option ℕ) → FoundLegal (rowAt o)
+unfolding rowAt rowOf
+row-at none = tt
+row-at (some c) = row-in headers-legal c
+
+say-header : (end : ℕ) (fs : List Field) (r : Option Row) → FoundLegal r → Told AnyHeader (sayHeader end fs r)
+unfolding sayHeader
+say-header end [] r h = blank
+say-header end (f ∷ fs) none h = bad
+say-header end (f ∷ fs) (some r) h = said-told AnyHeader _ (λ vs. Head (r .says vs)) (λ vs at. head (h vs at)) end (f ∷ fs)
+
+-- ---- data records
+
+-- four quarters make a word
+word-bound : {a b c d : ℕ} → a ≤ 65535 → b ≤ 65535 → c ≤ 65535 → d ≤ 65535 → ltb (wordOf a b c d) (2 ^ 64) ≡ true
+word-bound {a} {b} {c} {d} ha hb hc hd = lt-ltb (wordOf a b c d) (2 ^ 64) (omega arith)
+
+relocation-legal : (type arg : ℕ) → (1 ≤ type) × (type ≤ 5) → leb arg 65535 ≡ true → legalRelocation (relocationOf type arg) ≡ true
+unfolding legalRelocation
+relocation-legal type arg l b = go (eqb type 5) refl
+  where
+    go : (t : Bool) → eqb type 5 ≡ t → legalRelocation (cond t (External arg) (Unread type)) ≡ true
+    go true e = b
+    go false e = let other = eqb-false type 5 e in between-intro 1 4 type (l .0) (omega arith)
+
+-- a choice between two answers that can be told
+either : (w : Wanted) (t : Bool) {a b : LineAnswer} → Told w a → Told w b → Told w (cond t a b)
+either w true p q = p
+either w false p q = q
+
+code-told : (end : ℕ) (fs : List Field) → Told CodeRecord (codeLine end fs)
+unfolding codeLine legalWord legalRelocation
+code-told end fs =
+    either CodeRecord (starred fs)
+    (said-told CodeRecord _ _ (λ vs at. coded (and-intro (word-bound (at 1 .1) (at 2 .1) (at 3 .1) (at 4 .1)) (relocation-legal (nth vs 6) (nth vs 7) (at 6) (bounded (at 7))))) end fs)
+    (said-told CodeRecord _ _ (λ vs at. coded (and-intro (word-bound (at 0 .1) (at 1 .1) (at 2 .1) (at 3 .1)) refl)) end fs)
+
+entry-told : (end : ℕ) (fs : List Field) → Told EntryRecord (entryLine end fs)
+unfolding entryLine legalEntry
+entry-told end fs =
+    either EntryRecord (isOne (numberOf (textAt fs 2)))
+    (said-told EntryRecord _ _ (λ vs at. entered (and-intro (at 0) (and-intro (bounded (at 1)) (bounded (at 3))))) end fs)
+    (said-told EntryRecord _ _ (λ vs at. entered (and-intro (at 0) (and-intro (bounded (at 1)) refl))) end fs)
+
+fields-told : (w : Wanted) (end : ℕ) (fs : List Field) → Told w (fieldsSay w end fs)
+unfolding fieldsSay headerLine
+fields-told AnyHeader end fs = say-header end fs _ (row-at (numberOf (firstText fs)))
+fields-told OpeningTitle end fs = said-told OpeningTitle _ _ (λ vs at. opening (at 0)) end fs
+fields-told ClosingTitle end fs = said-told ClosingTitle _ _ (λ vs at. closing (at 0)) end fs
+fields-told CodeRecord end fs = code-told end fs
+fields-told EntryRecord end fs = entry-told end fs
+fields-told ExternalRecord end fs = said-told ExternalRecord _ _ (λ vs at. mentioned (at 0)) end fs
+fields-told DataRecord end fs = said-told DataRecord _ _ (λ vs at. dataRead) end fs
+fields-told InitRecord end fs = said-told InitRecord _ _ (λ vs at. initRead) end fs
+fields-told ParameterRecord end fs = said-told ParameterRecord _ _ (λ vs at. parameter (bounded (at 2))) end fs
+fields-told SubRecord end fs = said-told SubRecord _ _ (λ vs at. sub) end fs
+
+-- ---- the whole line
+
+line-of : (w : Wanted) (end : ℕ) (fs : List Field) → Told w (lineOf w end fs)
+unfolding lineOf
+line-of w end [] = blank
+line-of w end (f ∷ fs) = fields-told w end (f ∷ fs)
+
+tested : (w : Wanted) (front size : ℕ) (a : LineAnswer) → Told w a → Told w (testBytes front size a)
+unfolding testBytes
+tested w front size a t = either w (leb size front) t (either w (faultWithin front a) t bad)
+
+-- for every line, and whatever is wanted of it
+pub line-told : (w : Wanted) (line : List ℕ) → Told w (lineAnswer w line)
+unfolding lineAnswer
+line-told w line = tested w _ _ _ (line-of w (length line + 1) (fieldsOf line))
+
+-- the same as tests
+pub told-tests : {w : Wanted} {a : LineAnswer} → Told w a → (fitsWanted w a && legalAnswer a) ≡ true
+unfolding fitsWanted isWanted wantedNumber legalAnswer
+told-tests bad = refl
+told-tests blank = refl
+told-tests (head h) = h
+told-tests (opening h) = h
+told-tests (closing h) = h
+told-tests (coded h) = h
+told-tests (entered h) = h
+told-tests (mentioned h) = h
+told-tests dataRead = refl
+told-tests initRead = refl
+told-tests (parameter h) = h
+told-tests sub = refl
+
+pub line-fits : (w : Wanted) (line : List ℕ) → fitsWanted w (lineAnswer w line) ≡ true
+line-fits w line = and-left _ (legalAnswer (lineAnswer w line)) (told-tests (line-told w line))
+
+pub line-legal : (w : Wanted) (line : List ℕ) → legalAnswer (lineAnswer w line) ≡ true
+line-legal w line = and-right (fitsWanted w (lineAnswer w line)) _ (told-tests (line-told w line))
+
+-- ---- what the tests mean
+
+pub record EntryBounds (e : Entry) : Type 0 where
+  pub name : isPacked (e .name) ≡ true
+  pub value : e .value ≤ 65535
+  pub parameters : e .parameters ≤ 65535
+
+pub entry-bounds : (e : Entry) → legalEntry e ≡ true → EntryBounds e
+unfolding legalEntry
+entry-bounds e h =
+    let numbers = and-right (isPacked (e .name)) _ h in
+    record {
+      name = and-left (isPacked (e .name)) _ h;
+      value = leb-true (e .value) 65535 (and-left _ (leb (e .parameters) 65535) numbers);
+      parameters = leb-true (e .parameters) 65535 (and-right (leb (e .value) 65535) _ numbers);
+    }
+
+pub record WordBounds (w : CodeWord) : Type 0 where
+  pub text : w .text < 2 ^ 64
+  pub relocation : legalRelocation (w .relocation) ≡ true
+
+pub word-bounds : (w : CodeWord) → legalWord w ≡ true → WordBounds w
+unfolding legalWord
+word-bounds w h =
+    record {
+      text = ltb-true (w .text) (2 ^ 64) (and-left _ (legalRelocation (w .relocation)) h);
+      relocation = and-right (ltb (w .text) (2 ^ 64)) _ h;
+    }
