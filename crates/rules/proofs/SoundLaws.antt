@@ -11,10 +11,16 @@ use borrow.Author.Tests.{ltb-true, ltb-false, lt-ltb, le-leb, leb-true, leb-fals
 use Rattle.rules.specs.Text.{all, any, isPacked}
 use Rattle.rules.specs.State.{Symbol, symbol, nameIs, isSymbol, placeOf, Word, unplaced, plain, refers, State, state, soundSymbol, differentNames, soundWord, sound}
 use Rattle.rules.specs.Reading.{Module}
+use Rattle.rules.specs.Demand.{isExternal, isEntry}
+use Rattle.rules.specs.declared.line.CodeWord.{CodeWord}
 use Rattle.rules.specs.Placing.{Code, entries, externals, code, moduleLength, valueAt, define, mention, defineAll, mentionAll, joined, linked, putAll, noRoom, badArgument, badArguments, outOfRange, tableFull, overlaps, duplicates, placingFault, placed, externalName}
 use Rattle.rules.specs.declared.line.Entry.{Entry}
 use Rattle.rules.specs.declared.line.Relocation.{Relocation}
 use Rattle.rules.specs.declared.line.Relocation.the-variants.{Plain, External, Unread}
+use Rattle.rules.proofs.LineLaws.{legalEntry, legalWord, legalRelocation}
+use Rattle.rules.proofs.TestLaws.{all-at}
+use Rattle.rules.proofs.TableLaws.{symbol-joined, different-joined}
+use Rattle.rules.proofs.PlacingLaws.{Passed, placed-length}
 use Rattle.rules.proofs.AllLaws.{and-intro, and-left, and-right, or-left, or-right, cond-keeps, all-head, all-tail, all-cons, all-set, all-weaken, any-head, any-tail}
 
 -- ---- a sound state, fact by fact
@@ -90,21 +96,38 @@ mention-each x (s ∷ t) p h =
     h
     (all-cons soundSymbol s (mention x t) (all-head soundSymbol s t h) (mention-each x t p (all-tail soundSymbol s t h)))
 
--- a legal entry, whose value fits at a base
-pub legalEntry : ℕ → Entry → Bool
-legalEntry base e = isPacked (e .name) && leb (valueAt base e) 65535
+-- an entry with a legal name, whose value fits at a base
+pub fittingEntry : ℕ → Entry → Bool
+fittingEntry base e = isPacked (e .name) && leb (valueAt base e) 65535
+
+-- a legal entry fits where the test of its range passed
+fits-at : (base : ℕ) (e : Entry) → legalEntry e ≡ true → (e .relocated && ltb 65535 (e .value + base)) ≡ false → fittingEntry base e ≡ true
+unfolding legalEntry fittingEntry valueAt
+fits-at base e l r =
+    let name-legal = and-left (isPacked (e .name)) (leb (e .value) 65535 && leb (e .parameters) 65535) l in
+    let bounds = and-right (isPacked (e .name)) (leb (e .value) 65535 && leb (e .parameters) 65535) l in
+    let small : e .value ≤ 65535 = leb-true (e .value) 65535 (and-left (leb (e .value) 65535) (leb (e .parameters) 65535) bounds) in
+    and-intro name-legal (go (e .relocated) r small)
+  where
+    go : (b : Bool) → (b && ltb 65535 (e .value + base)) ≡ false → e .value ≤ 65535 → leb (cond b (e .value + base) (e .value)) 65535 ≡ true
+    go true r h = le-leb _ _ (ltb-false 65535 (e .value + base) r)
+    go false r h = le-leb _ _ h
+
+or-end : (b : Bool) → (b || true) ≡ true
+or-end true = refl
+or-end false = refl
 
 defineAll-each : (base : ℕ) (es : List Entry) (t : List Symbol)
-    → all (legalEntry base) es ≡ true → all soundSymbol t ≡ true → all soundSymbol (defineAll base es t) ≡ true
-unfolding defineAll legalEntry
+    → all (fittingEntry base) es ≡ true → all soundSymbol t ≡ true → all soundSymbol (defineAll base es t) ≡ true
+unfolding defineAll fittingEntry
 defineAll-each base [] t l h = h
 defineAll-each base (e ∷ es) t l h =
-    let le = all-head (legalEntry base) e es l in
+    let le = all-head (fittingEntry base) e es l in
     defineAll-each
     base
     es
     (define (e .name) (valueAt base e) t)
-    (all-tail (legalEntry base) e es l)
+    (all-tail (fittingEntry base) e es l)
     (define-each
     (e .name)
     (valueAt base e)
@@ -185,3 +208,116 @@ place-below x (s ∷ t) h = go (nameIs x s) h (place-below x t)
     go : (b : Bool) → (b || any (nameIs x) t) ≡ true → (any (nameIs x) t ≡ true → placeOf x t < length t) → cond b 0 (placeOf x t + 1) < suc (length t)
     go true h ih = suc-le-suc zero-le
     go false h ih = let k : placeOf x t < length t = ih h in omega arith
+
+-- a word that refers only to symbols of the table
+linked-sound : (xs : List ℕ) (t : List Symbol) (text : ℕ) (r : Relocation)
+    → text < 2 ^ 64 → all (λ x. isSymbol x t) xs ≡ true → badArgument (length xs) r ≡ false → soundWord (length t) (linked xs t text r) ≡ true
+unfolding soundWord linked badArgument
+linked-sound xs t text Plain l h b = lt-ltb text (2 ^ 64) l
+linked-sound xs t text (Unread type) l h b = lt-ltb text (2 ^ 64) l
+linked-sound xs t text (External k) l h b =
+    let some-number = eqb-false k 0 (or-left (eqb k 0) (ltb (length xs) k) b) in
+    let within : k ≤ length xs = ltb-false (length xs) k (or-right (eqb k 0) (ltb (length xs) k) b) in
+    let inside : k - 1 < length xs = omega (arith, some-number) in
+    and-intro
+    (lt-ltb text (2 ^ 64) l)
+    (lt-ltb _ _ (place-below (externalName xs k) t (all-at (λ x. isSymbol x t) xs (k - 1) 0 h inside)))
+
+put-sound : (n base : ℕ) (xs : List ℕ) (t : List Symbol) (cs : List Code) (ws : List Word)
+    → all (λ c. soundWord n (linked xs t (c .word .text) (c .word .relocation))) cs ≡ true
+    → all (soundWord n) ws ≡ true → all (soundWord n) (putAll base xs t cs ws) ≡ true
+unfolding putAll
+put-sound n base xs t [] ws l h = h
+put-sound n base xs t (c ∷ cs) ws l h =
+    let w = linked xs t (c .word .text) (c .word .relocation) in
+    let p : Code → Bool = λ c. soundWord n (linked xs t (c .word .text) (c .word .relocation)) in
+    put-sound n base xs t cs (set ws (base + c .address) w) (all-tail p c cs l)
+    (all-set (soundWord n) ws (base + c .address) w h (all-head p c cs l))
+
+-- ---- a legal module
+
+-- a module with the names, values and texts that a file can give it
+pub record Legal (m : Module) : Type 0 where
+  pub entries-legal : all legalEntry (entries m) ≡ true
+  pub externals-legal : all isPacked (externals m) ≡ true
+  pub code-legal : all (λ c. legalWord (c .word)) (code m) ≡ true
+
+-- every external of the module is a symbol once it joined
+externals-joined : (base : ℕ) (m : Module) (t : List Symbol) (xs : List ℕ)
+    → ((x : ℕ) → any (eqb x) xs ≡ true → isExternal x m ≡ true) → all (λ x. isSymbol x (joined base m t)) xs ≡ true
+unfolding all any
+externals-joined base m t [] h = refl
+externals-joined base m t (x ∷ xs) h =
+    all-cons
+    (λ y. isSymbol y (joined base m t))
+    x
+    xs
+    (symbol-joined base m t x ∙ simp (h x (simp (eq-eqb x x refl))))
+    (externals-joined base m t xs (λ y k. h y (rw k (or-end (eqb y x)))))
+
+fitting : (base : ℕ) (es : List Entry)
+    → all legalEntry es ≡ true → any (λ e. e .relocated && ltb 65535 (e .value + base)) es ≡ false → all (fittingEntry base) es ≡ true
+unfolding all
+fitting base [] l r = refl
+fitting base (e ∷ es) l r =
+    all-cons
+    (fittingEntry base)
+    e
+    es
+    (fits-at base e (all-head legalEntry e es l) (any-head _ e es r))
+    (fitting base es (all-tail legalEntry e es l) (any-tail _ e es r))
+
+words-linked : (base : ℕ) (xs : List ℕ) (t : List Symbol) (cs : List Code)
+    → all (λ x. isSymbol x t) xs ≡ true → all (λ c. legalWord (c .word)) cs ≡ true
+    → any (λ c. badArgument (length xs) (c .word .relocation)) cs ≡ false
+    → all (λ c. soundWord (length t) (linked xs t (c .word .text) (c .word .relocation))) cs ≡ true
+unfolding all legalWord
+words-linked base xs t [] h l b = refl
+words-linked base xs t (c ∷ cs) h l b =
+    all-cons
+    (λ c. soundWord (length t) (linked xs t (c .word .text) (c .word .relocation)))
+    c
+    cs
+    (linked-sound
+    xs
+    t
+    (c .word .text)
+    (c .word .relocation)
+    (ltb-true (c .word .text) (2 ^ 64) (and-left (ltb (c .word .text) (2 ^ 64)) (legalRelocation (c .word .relocation)) (all-head (λ c. legalWord (c .word)) c cs l)))
+    h
+    (any-head (λ c. badArgument (length xs) (c .word .relocation)) c cs b))
+    (words-linked base xs t cs h (all-tail (λ c. legalWord (c .word)) c cs l) (any-tail (λ c. badArgument (length xs) (c .word .relocation)) c cs b))
+
+pub placed-sound : (s : State) (m : Module) → Sound s → Legal m → Passed s m → Sound (placed s m)
+unfolding placed joined noRoom badArguments outOfRange tableFull isExternal
+placed-sound s m h l p =
+    let base : ℕ = s .next in
+    let t = joined base m (s .symbols) in
+    let symbols-there = externals-joined base m (s .symbols) (externals m) (λ x k. k) in
+    record {
+      few = ltb-false 256 (length t) (p .table);
+      each =
+          mentionAll-each
+          (externals m)
+          (defineAll base (entries m) (s .symbols))
+          (l .externals-legal)
+          (defineAll-each base (entries m) (s .symbols) (fitting base (entries m) (l .entries-legal) (p .range)) (h .each));
+      different = different-joined base m (s .symbols) (h .different);
+      size = placed-length s m ∙ h .size;
+      words =
+          put-sound
+          (length t)
+          base
+          (externals m)
+          t
+          (code m)
+          (s .words)
+          (words-linked base (externals m) t (code m) symbols-there (l .code-legal) (p .arguments))
+          (all-weaken
+          (soundWord (length (s .symbols)))
+          (soundWord (length t))
+          (soundWord-more (length (s .symbols)) (length t) (joined-longer base m (s .symbols)))
+          (s .words)
+          (h .words));
+      next = ltb-false 4096 (base + moduleLength m) (p .room);
+    }
