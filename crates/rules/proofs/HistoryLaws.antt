@@ -65,7 +65,7 @@ counts-append (m ∷ a) b = omega (arith, counts-append a b)
 
 -- ---- a walk that ends accepted was accepted all along
 
-test-state : (line : ℕ) (ms : List Module) (w : Walk) → testSection line ms w .state ≡ w .state
+pub test-state : (line : ℕ) (ms : List Module) (w : Walk) → testSection line ms w .state ≡ w .state
 unfolding testSection
 test-state line ms w =
     cond-cases (λ v. v .state ≡ w .state) (accepted w && twice (sectionNames ms)) (refusedAt 13 line (w .state)) w (λ _. refl) (λ _. refl)
@@ -97,7 +97,7 @@ unfoldable pub eachModule : (Module → Bool) → Item → Bool
 eachModule p (free m) = p m
 eachModule p (section line ms) = all p ms
 
-all-found : {A : Type 0} (p : A → Bool) (xs : List A) (i : ℕ) {x : A} → all p xs ≡ true → getElem? xs i ≡ some x → p x ≡ true
+pub all-found : {A : Type 0} (p : A → Bool) (xs : List A) (i : ℕ) {x : A} → all p xs ≡ true → getElem? xs i ≡ some x → p x ≡ true
 all-found p [] i h e = never-none e
 all-found p (y ∷ xs) zero {x} h e = let same : y ≡ x = cc in subst (λ z. p z ≡ true) same (all-head p y xs h)
 all-found p (y ∷ xs) (suc i) h e = all-found p xs i (all-tail p y xs h) e

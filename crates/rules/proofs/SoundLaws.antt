@@ -86,7 +86,7 @@ define-each x v (s ∷ t) p q h =
     (all-cons soundSymbol (symbol x v true) t (defined-sound x v p q) (all-tail soundSymbol s t h))
     (all-cons soundSymbol s (define x v t) (all-head soundSymbol s t h) (define-each x v t p q (all-tail soundSymbol s t h)))
 
-mention-each : (x : ℕ) (t : List Symbol) → isPacked x ≡ true → all soundSymbol t ≡ true → all soundSymbol (mention x t) ≡ true
+pub mention-each : (x : ℕ) (t : List Symbol) → isPacked x ≡ true → all soundSymbol t ≡ true → all soundSymbol (mention x t) ≡ true
 unfolding mention
 mention-each x [] p h = all-cons soundSymbol (symbol x 0 false) [] (mentioned-sound x p) h
 mention-each x (s ∷ t) p h =
@@ -161,7 +161,7 @@ define-longer x v (s ∷ t) =
     (le-refl (suc (length t)))
     (suc-le-suc (define-longer x v t))
 
-mention-longer : (x : ℕ) (t : List Symbol) → length t ≤ length (mention x t)
+pub mention-longer : (x : ℕ) (t : List Symbol) → length t ≤ length (mention x t)
 unfolding mention
 mention-longer x [] = zero-le
 mention-longer x (s ∷ t) =
@@ -191,7 +191,7 @@ joined-longer base m t =
 
 -- ---- words
 
-soundWord-more : (n k : ℕ) → n ≤ k → (w : Word) → soundWord n w ≡ true → soundWord k w ≡ true
+pub soundWord-more : (n k : ℕ) → n ≤ k → (w : Word) → soundWord n w ≡ true → soundWord k w ≡ true
 unfolding soundWord
 soundWord-more n k l unplaced h = h
 soundWord-more n k l (plain x) h = h
