@@ -1,4 +1,4 @@
 // The types that the definitions of specs/ and the code of the crates above share. No function lives here.
-mod answer;
-mod line;
-mod reading;
+pub mod answer;
+pub mod line;
+pub mod reading;
