@@ -21,7 +21,7 @@ use Rattle.rules.proofs.BoolLaws.{never, or-on, or-off, or-left-comm, a
 use Rattle.rules.proofs.SearchLaws.{search-keeps, search-settled}
 use Rattle.rules.proofs.TableLaws.{not-both, defined-joined, undefined-joined, different-joined}
 use Rattle.rules.proofs.WalkLaws.{place-accepted, place-placed, section-accepted, items-accepted, items-append, items-different, load-accepted}
-use Rattle.rules.proofs.SectionLaws.{as-in, some-at, some-in, some-nowhere, some-larger, some-with, alone}
+use Rattle.rules.proofs.SectionLaws.{as-in, some-at, some-here, some-in, some-nowhere, some-larger, some-with, alone}
 
 -- ---- what every taking keeps: the table now, from the table before the section and the modules taken
 
@@ -80,14 +80,10 @@ module _ (table : List Symbol) (ms : List Module) where
         let not-now = sym (h .defined x) ∙ not-true (isDefined x now) (asked .1) in
         let new = or-off (isDefined x table) (entryOf x t ms) not-now in
         let larger = some-larger (isExternal x) ms set t (h .contained set enough) in
-        let known =
-        some-at (isEntry x) ms everywhere
-        (record { place = i; one = m; stands = stands; belongs = refl; passes = entry }) in
-        let found =
-        unless (entryOf x set ms) (isDefined x table) (entryOf x everywhere ms)
-        (enough x (or-more (isUndefined x table) (externalOf x t ms) (externalOf x set ms) larger (asked .0)))
-        (new .0)
-        known in
+        let known = some-here (isEntry x) ms everywhere i m stands refl entry in
+        let open-there = or-more (isUndefined x table) (externalOf x t ms) (externalOf x set ms) larger (asked .0) in
+        let answered = enough x open-there in
+        let found = unless (entryOf x set ms) (isDefined x table) (entryOf x everywhere ms) answered (new .0) known in
         let one = some-in (isEntry x) ms set found in
         rw (alone x ms once i (one .place) m (one .one) stands (one .stands) entry (one .passes)) (one .belongs)
       where
@@ -124,7 +120,7 @@ module _ (table : List Symbol) (ms : List Module) where
               (or-on (eqb i j) (t j) e);
         }
 
--- ---- small steps
+-- ---- small steps: Booleans, what is wanted, and two sets
 
 or-not : (a b : Bool) → (a || not b) ≡ true → b ≡ true → a ≡ true
 or-not true b e q = refl
@@ -177,6 +173,7 @@ one-more big small (suc n) c other = go (big n) (small n) refl refl (one-more bi
 
 module _ (ms : List Module) (w : Walk) (once : twice (sectionNames ms) ≡ false)
     (different : differentNames (w .state .symbols) ≡ true) (well : accepted (searched ms w .now) ≡ true) where
+  -- the invariant at the end of the search
   section-holds : Holds (w .state .symbols) ms (searched ms w .taken) (searched ms w .now .state .symbols)
   unfolding searched wants wanted placed
   section-holds =
@@ -203,6 +200,7 @@ module _ (ms : List Module) (w : Walk) (once : twice (sectionNames ms) ≡ false
       (search-settled wants place ms w (one .place) (one .one) (one .stands))
       (undefined-wants (f .now) (one .one) x well u (one .passes))))
 
+  -- "The modules taken there are a sufficient set"
   section-sufficient : Sufficient (w .state .symbols) ms (searched ms w .taken)
   unfolding Sufficient
   section-sufficient x asked =
@@ -210,6 +208,7 @@ module _ (ms : List Module) (w : Walk) (once : twice (sectionNames ms) ≡ false
       unless-not (entryOf x (searched ms w .taken) ms) (isDefined x (w .state .symbols)) (entryOf x everywhere ms)
       (λ a b. section-settled x (rw (h .undefined x, asked, h .defined x, a, b)))
 
+  -- "and every other sufficient set contains them all and at least one more"
   section-least : LeastSufficient (w .state .symbols) ms (searched ms w .taken)
   unfolding Contains OneMore SameSet
   section-least =
@@ -222,6 +221,7 @@ module _ (ms : List Module) (w : Walk) (once : twice (sectionNames ms) ≡ false
 
 -- ---- the claim on LOAD
 
+-- the names of a sound state are different
 sound-different : (s : State) → sound s ≡ true → differentNames (s .symbols) ≡ true
 unfolding sound
 sound-different s h =
@@ -229,6 +229,7 @@ sound-different s h =
     let b = and-on (all soundSymbol (s .symbols)) _ a .1 in
     and-on (differentNames (s .symbols)) _ b .0
 
+-- "if the load is accepted, take any library section of the file": w is the walk at its LSB header
 pub demand-3 : (s : State) (file : List ℕ) → sound s ≡ true → load (holding s) true file .answer .number ≡ 0 →
     (before after : List Item) (line : ℕ) (ms : List Module) → itemsOf file ≡ before ++ (section line ms ∷ after) →
     let w = walkFrom s before .walk in LeastSufficient (w .state .symbols) ms (searched ms w .taken)

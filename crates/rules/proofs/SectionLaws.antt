@@ -67,6 +67,10 @@ module _ (p : Module → Bool) (ms : List Module) where
   pub some-at : (set : Places) → Member p set ms → someFrom p set 0 ms ≡ true
   some-at set w = some-at-from p set 0 ms (as-in (λ k. set (0 + k)) w (rw zero-add (w .belongs)))
 
+  pub some-here : (set : Places) (i : ℕ) (m : Module) → getElem? ms i ≡ some m → set i ≡ true → p m ≡ true →
+      someFrom p set 0 ms ≡ true
+  some-here set i m e b h = some-at set (record { place = i; one = m; stands = e; belongs = b; passes = h })
+
   pub some-in : (set : Places) → someFrom p set 0 ms ≡ true → Member p set ms
   some-in set h = let w = some-in-from p set 0 ms h in as-in set w (rw (zero-add (w .place)) at (w .belongs))
 
@@ -102,9 +106,7 @@ module _ (p : Module → Bool) (ms : List Module) where
       more : (p m || someFrom p t 0 ms) ≡ true → someFrom p (with i t) 0 ms ≡ true
       more h =
           ⊎-elim
-          (λ q.
-          some-at (with i t)
-          (record { place = i; one = m; stands = e; belongs = rw (eqb-same i); passes = q }))
+          (λ q. some-here (with i t) i m e (rw (eqb-same i)) q)
           (λ q.
           let w = some-in t q in
           some-at (with i t) (as-in (with i t) w (rw (w .belongs) (or-true (eqb i (w .place))))))

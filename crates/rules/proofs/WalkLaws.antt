@@ -128,6 +128,9 @@ read-accepted s file (Stopped k n c) t h = absurd (eqb-false k 0 (not-true (eqb 
 read-accepted s file Complete t h = walked-accepted s (walkFrom s (itemsOf file)) h
 
 -- an accepted load is what its walk comes to
+abbrev Comes : Progress → LoadOutcome → Type 0
+Comes p o = o .answer .number ≡ 0 → (accepted (p .walk) ≡ true) × (o ≡ loadOutcome (accomplished p))
+
 pub load-accepted : (s : State) (file : List ℕ) → load (holding s) true file .answer .number ≡ 0 →
     let p = walkFrom s (itemsOf file) in
     (accepted (p .walk) ≡ true)
@@ -137,11 +140,9 @@ unfolding load loadLent loadState loadFile
 load-accepted s file =
     let p = walkFrom s (itemsOf file) in
     let k = shutBy (s .mark) in
-    let Claim : LoadOutcome → Type 0 =
-    λ o. o .answer .number ≡ 0 → (accepted (p .walk) ≡ true) × (o ≡ loadOutcome (accomplished p)) in
-    cond-cases Claim (not (eqb k 0)) _ _
+    cond-cases (Comes p) (not (eqb k 0)) _ _
     (λ e h. absurd (eqb-false k 0 (not-true (eqb k 0) e) h))
     (λ _.
-    cond-cases Claim (ltb 65536 (length file)) _ _
+    cond-cases (Comes p) (ltb 65536 (length file)) _ _
     (λ _ h. absurd (omega arith))
     (λ _ h. let q = read-accepted s file (readingOf file) (reading-told file) h in (q .0, ap loadOutcome (q .1))))
