@@ -1,8 +1,8 @@
 -- Tests and choices, over plain Booleans, and the places of a list.
 use Prim.Native.Nat.{ℕ, zero, suc, _<_}
 use native.Mathlib.Omega.{arith}
-use mathlib.Core.Bool.{Bool, true, false, cond, _&&_, _||_, or-true}
-use mathlib.Core.List.{List, [], _∷_, map}
+use mathlib.Core.Bool.{Bool, true, false, cond, _&&_, _||_, or-true, or-assoc}
+use mathlib.Core.List.{List, [], _∷_, _++_, map}
 use mathlib.Core.Logic.{_⊎_, inl, inr}
 use mathlib.Core.Option.{none, some}
 use mathlib.Core.Path.{_≡_, refl, sym}
@@ -36,6 +36,17 @@ or-off false b e = (refl, e)
 pub and-on : (a b : Bool) → (a && b) ≡ true → (a ≡ true) × (b ≡ true)
 and-on true b e = (refl, e)
 and-on false b e = never e refl
+
+pub or-left-comm : (a b c : Bool) → (a || (b || c)) ≡ (b || (a || c))
+or-left-comm true true c = refl
+or-left-comm true false c = refl
+or-left-comm false b c = refl
+
+-- two tests that pass together are the same
+pub both-ways : (a b : Bool) → (a ≡ true → b ≡ true) → (b ≡ true → a ≡ true) → a ≡ b
+both-ways true b p q = sym (p refl)
+both-ways false true p q = q refl
+both-ways false false p q = refl
 
 -- an element of a list stands inside it
 pub inside : {A : Type 0} (xs : List A) (i : ℕ) {x : A} → getElem? xs i ≡ some x → i < length xs
@@ -80,3 +91,8 @@ pub any-map : {A B : Type 0} (p : B → Bool) (f : A → B) (xs : List A) → an
 unfolding any
 any-map p f [] = refl
 any-map p f (x ∷ xs) = rw (any-map p f xs)
+
+pub any-append : {A : Type 0} (p : A → Bool) (xs ys : List A) → any p (xs ++ ys) ≡ (any p xs || any p ys)
+unfolding any
+any-append p [] ys = refl
+any-append p (x ∷ xs) ys = rw (any-append p xs ys) (sym (or-assoc (p x) (any p xs) (any p ys)))

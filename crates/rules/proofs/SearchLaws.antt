@@ -226,17 +226,18 @@ module _ {M X : Type 0} (wants : X → M → Bool) (place : X → M → X) where
       (λ _. omega arith)
       (λ e. omega (arith, eqb-false (r .took) 0 e, rounds-most ms fuel (r .taken) (r .now)))
 
-  pub search-most : (ms : List M) (x : X) →
+  -- so a search has at most one round more than it takes modules, it has one at least, and without modules just one
+  pub search-rounds-most : (ms : List M) (x : X) →
       let f = search wants place ms x in f .rounds ≤ count (f .taken) (length ms) + 1
   unfolding search
-  search-most ms x = omega (arith, rounds-most ms (suc (length ms)) nowhere x)
+  search-rounds-most ms x = omega (arith, rounds-most ms (suc (length ms)) nowhere x)
 
-  pub search-least : (ms : List M) (x : X) → 1 ≤ search wants place ms x .rounds
+  pub search-rounds-least : (ms : List M) (x : X) → 1 ≤ search wants place ms x .rounds
   unfolding search rounds
-  search-least ms x =
+  search-rounds-least ms x =
       let r = round wants place ms nowhere x in
       cond-cases (λ (f : Found X). 1 ≤ f .rounds) (eqb (r .took) 0) _ _ (λ _. omega arith) (λ _. omega arith)
 
-  pub search-empty : (x : X) → search wants place [] x .rounds ≡ 1
+  pub search-rounds-empty : (x : X) → search wants place [] x .rounds ≡ 1
   unfolding search rounds round sweep
-  search-empty x = refl
+  search-rounds-empty x = refl

@@ -15,14 +15,7 @@ use Rattle.rules.specs.Placing.{entries, externals, entryName, valueAt, 
 use Rattle.rules.specs.Load.{entryNames}
 use Rattle.rules.specs.Demand.{isEntry, isExternal}
 use Rattle.rules.specs.declared.line.Entry.{Entry}
-use Rattle.rules.proofs.BoolLaws.{cond-cases, never, never-none, or-off, and-on, eqb-same, eqb-comm, any-at, any-map}
-
--- ---- Booleans
-
-or-left-comm : (a b c : Bool) → (a || (b || c)) ≡ (b || (a || c))
-or-left-comm true true c = refl
-or-left-comm true false c = refl
-or-left-comm false b c = refl
+use Rattle.rules.proofs.BoolLaws.{cond-cases, never, never-none, or-off, or-left-comm, and-on, eqb-same, eqb-comm, any-at, any-map}
 
 -- ---- symbols are defined or undefined, and not both
 
