@@ -64,3 +64,13 @@ module _ {ℓ} {A : Type ℓ} where
 abbrev pub Every {ℓ} : {A : Type ℓ} → (A → Type 0) → List A → Type 0
 Every P [] = Unit {0}
 Every P (x ∷ xs) = P x × Every P xs
+
+pub every-add {ℓ} : {A : Type ℓ} (P : A → Type 0) (xs : List A) (y : A) → Every P xs → P y → Every P (xs ++ (y ∷ []))
+every-add P [] y h p = (p, tt)
+every-add P (x ∷ xs) y h p = (h .0, every-add P xs y (h .1) p)
+
+-- as a test
+pub every-all {ℓ} : {A : Type ℓ} (P : A → Type 0) (p : A → Bool) → ((x : A) → P x → p x ≡ true) → (xs : List A) → Every P xs → all p xs ≡ true
+unfolding all
+every-all P p f [] h = refl
+every-all P p f (x ∷ xs) h = and-intro (f x (h .0)) (every-all P p f xs (h .1))
