@@ -3,7 +3,7 @@ use Prim.Native.Nat.{ℕ, _+_, _-_, _<_, _≤_}
 use mathlib.Core.Bool.{Bool, true, false, cond, not, _||_, false≢true, and-false}
 use mathlib.Core.List.{List, [], _∷_, _++_}
 use mathlib.Core.Option.{Option, none, some}
-use mathlib.Core.Path.{_≡_, refl, ap, subst, _∙_}
+use mathlib.Core.Path.{_≡_, refl, ap, subst}
 use native.Mathlib.Nat.{add-zero}
 use native.Mathlib.Omega.{arith}
 use lib.ListN.{length, length-append}
@@ -94,8 +94,8 @@ pub data Stands : Mode → List Part → List Module → Type 0 where
       → InSection 1 s ms → Within ps n x c → c ≡ countIn ps → idle w ≡ true
       → Stands (mode w b (openModule true title line n x) s) ps ms
 
--- what a step hands on
-abbrev After : List Part → List Module → Step → Type 0
+-- what holds after a step
+abbrev pub After : List Part → List Module → Step → Type 0
 After ps ms (Stop k c) = Unit {0}
 After ps ms (Next m) = Stands m ps ms
 After ps ms (Add m p) = Stands m (ps ++ (p ∷ [])) ms
@@ -138,6 +138,7 @@ no-parts-within = record { sound = no-parts; entries = refl; externals = refl }
 
 -- ---- outside a module
 
+-- TITLE, LSB and LEB may stand here, and no other header
 rest-title :
     (n : ℕ) {s : OpenSection} {ms : List Module} → InSection 0 s ms
     → After [] ms (titleStep n (restIn s))
@@ -369,11 +370,12 @@ step-stands n (beforeTitle {b} {line} i) t = title-step n b line i t
 step-stands n (beforeCode {offset} {count} {remaining} {subs} {title} {line} i h g) t = code-step title line i h n offset count remaining subs g t
 step-stands n (beforeOther {w} {b} {title} {line} i h known l) t = other-step title line i h known n w b l t
 
-start-stands : Stands atStart [] []
+pub start-stands : Stands atStart [] []
 unfolding atStart
 start-stands = atRest outside
 
-line-stands :
+-- from any mode where the reading can stand, any line leads to another, or stops the reading
+pub line-stands :
     (n : ℕ) {m : Mode} {ps : List Part} {ms : List Module} → Stands m ps ms → (l : List ℕ) → After ps ms (stepAt n m l)
 line-stands n {m} i l = step-stands n i (line-told (m .wanted) l)
 
@@ -450,11 +452,11 @@ unfoldable pub modeAfter : ℕ → Mode → List (List ℕ) → Option Mode
 modeAfter n m [] = some m
 modeAfter n m (l ∷ ls) = afterStep (stepAt n m l) (λ m′. modeAfter (n + 1) m′ ls)
 
-stopped : {k n c : ℕ} → Stopped k n c ≡ Complete → ⊥
+pub stopped : {k n c : ℕ} → Stopped k n c ≡ Complete → ⊥
 stopped e = let z : _≡_ {A = ℕ} 0 1 = cc in omega arith
 
 -- no module and no section is open at the end: then nothing is left of the last one either
-at-end :
+pub at-end :
     (n : ℕ) {m : Mode} {ps : List Part} {ms : List Module} → Stands m ps ms → atEnd n m ≡ Complete
     → (m ≡ atStart) × (ps ≡ []) × (ms ≡ [])
 unfolding atEnd atStart isHeader
@@ -496,80 +498,3 @@ rest-from (l ∷ ls) n m ps ms i e =
 -- a complete reading ends where it began
 pub complete-rest : (n : ℕ) (ls : List (List ℕ)) → readFrom n atStart ls ≡ Complete → modeAfter n atStart ls ≡ some atStart
 complete-rest n ls e = rest-from ls n atStart [] [] start-stands e
-
--- ---- files joined at a line's end
-
--- lines behind those of a reading that came to mode m′
-step-onward :
-    (n : ℕ) (go : Mode → Reading) (end : Mode → Option Mode) (m′ : Mode) (r : Reading)
-    → ((m : Mode) → end m ≡ some m′ → go m ≡ r) → (a : Step) → afterStep a end ≡ some m′ → onward n a go ≡ r
-unfolding onward afterStep
-step-onward n go end m′ r f (Stop k c) e = let z : _≡_ {A = ℕ} 0 1 = cc in absurd (omega arith)
-step-onward n go end m′ r f (Next m) e = f m e
-step-onward n go end m′ r f (Add m p) e = f m e
-step-onward n go end m′ r f (CloseModule m line) e = f m e
-step-onward n go end m′ r f (CloseSection m line) e = f m e
-
-pub read-append :
-    (ls ks : List (List ℕ)) (n : ℕ) (m m′ : Mode) → modeAfter n m ls ≡ some m′
-    → readFrom n m (ls ++ ks) ≡ readFrom (n + length ls) m′ ks
-unfolding modeAfter readFrom
-read-append [] ks n m m′ e = let same : m ≡ m′ = cc in rw (same, add-zero)
-read-append (l ∷ ls) ks n m m′ e =
-    step-onward
-    n
-    (λ m₁. readFrom (n + 1) m₁ (ls ++ ks))
-    (λ m₁. modeAfter (n + 1) m₁ ls)
-    m′
-    (readFrom (n + 1 + length ls) m′ ks)
-    (λ m₁ q. read-append ls ks (n + 1) m₁ m′ q)
-    (stepAt n m l)
-    e
-    ∙ ap (λ (k : ℕ). readFrom k m′ ks) (omega arith)
-
--- the items of lines joined to those of a complete reading
-module _ (n : ℕ) (go : Mode → Reading) (whole front : Mode → List Part → List Module → List Item) (back : List Item)
-    (f : (m : Mode) (ps : List Part) (ms : List Module) → Stands m ps ms → go m ≡ Complete → whole m ps ms ≡ front m ps ms ++ back) where
-  done-append :
-      (t : Bool) (md : Module) (m : Mode) (ms : List Module) → Stands m [] (cond t (ms ++ (md ∷ [])) ms) → go m ≡ Complete
-      → moduleDone t md m ms whole ≡ moduleDone t md m ms front ++ back
-  unfolding moduleDone
-  done-append true md m ms i e = f m [] (ms ++ (md ∷ [])) i e
-  done-append false md m ms i e = ap (_∷_ (free md)) (f m [] ms i e)
-
-  gather-append :
-      (a : Step) (ps : List Part) (ms : List Module) → After ps ms a → onward n a go ≡ Complete
-      → gather a ps ms whole ≡ gather a ps ms front ++ back
-  unfolding gather onward
-  gather-append (Stop k c) ps ms i e = absurd (stopped e)
-  gather-append (Next m) ps ms i e = f m ps ms i e
-  gather-append (Add m p) ps ms i e = f m (ps ++ (p ∷ [])) ms i e
-  gather-append (CloseModule m line) ps ms i e = done-append (m .section .inside) (moduleAt line ps) m ms (i .1) e
-  gather-append (CloseSection m line) ps ms i e = ap (_∷_ (section line ms)) (f m [] [] (i .1) e)
-
-items-append-from :
-    (ks ls : List (List ℕ)) (n : ℕ) (m : Mode) (ps : List Part) (ms : List Module) → Stands m ps ms → readFrom n m ls ≡ Complete
-    → itemsFrom n m ps ms (ls ++ ks) ≡ itemsFrom n m ps ms ls ++ itemsFrom (n + length ls) atStart [] [] ks
-unfolding readFrom itemsFrom
-items-append-from ks [] n m ps ms i e =
-    let (p, q, r) = at-end n i e in
-    rw (p, q, r, add-zero)
-items-append-from ks (l ∷ ls) n m ps ms i e =
-    gather-append
-    n
-    (λ m₁. readFrom (n + 1) m₁ ls)
-    (λ m₁ ps₁ ms₁. itemsFrom (n + 1) m₁ ps₁ ms₁ (ls ++ ks))
-    (λ m₁ ps₁ ms₁. itemsFrom (n + 1) m₁ ps₁ ms₁ ls)
-    (itemsFrom (n + 1 + length ls) atStart [] [] ks)
-    (items-append-from ks ls (n + 1))
-    (stepAt n m l)
-    ps
-    ms
-    (line-stands n i l)
-    e
-    ∙ ap (λ (k : ℕ). itemsFrom n m ps ms (l ∷ ls) ++ itemsFrom k atStart [] [] ks) (omega arith)
-
-pub items-append :
-    (ls ks : List (List ℕ)) (n : ℕ) → readFrom n atStart ls ≡ Complete
-    → itemsFrom n atStart [] [] (ls ++ ks) ≡ itemsFrom n atStart [] [] ls ++ itemsFrom (n + length ls) atStart [] [] ks
-items-append ls ks n e = items-append-from ks ls n atStart [] [] start-stands e
