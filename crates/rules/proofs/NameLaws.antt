@@ -10,7 +10,7 @@ use lib.ListN.{length, getD}
 use lib.Dec.{eqb}
 use borrow.Author.Tests.{leb-true, eq-eqb, ne-eqb, eqb-true}
 use Rattle.rules.specs.Text.{all, between, isOctal, octal, isNumber, numberOf, isLetter, isLetterOrDigit, isName, packName, nameOf, upToZero, unpackName, isPacked}
-use Rattle.rules.proofs.TestLaws.{and-intro, and-left, and-right, between-intro, between-low, between-high, all-weaken}
+use Rattle.rules.proofs.TestLaws.{and-intro, and-left, and-right, between-intro, between-low, between-high, all-weaken, all-first, all-rest}
 
 -- ---- numbers
 
@@ -60,8 +60,8 @@ name-text cs h =
 pub byte-bound : (cs : List ℕ) → all (between 48 90) cs ≡ true → (i : ℕ) → getD cs i 0 ≤ 90
 unfolding all
 byte-bound [] h i = omega arith
-byte-bound (c ∷ cs) h zero = between-high 48 90 c (and-left (between 48 90 c) (all (between 48 90) cs) h)
-byte-bound (c ∷ cs) h (suc i) = byte-bound cs (and-right (between 48 90 c) (all (between 48 90) cs) h) i
+byte-bound (c ∷ cs) h zero = between-high 48 90 c (all-first (between 48 90) c cs h)
+byte-bound (c ∷ cs) h (suc i) = byte-bound cs (all-rest (between 48 90) c cs h) i
 
 -- ---- packing and unpacking
 
@@ -88,10 +88,10 @@ up-to-padded zero [] h l = refl
 up-to-padded zero (c ∷ cs) h l = absurd (omega arith)
 up-to-padded (suc n) [] h l = refl
 up-to-padded (suc n) (c ∷ cs) h l =
-    let some-byte : c ≢ 0 = omega (arith, between-low 48 90 c (and-left (between 48 90 c) (all (between 48 90) cs) h)) in
+    let some-byte : c ≢ 0 = omega (arith, between-low 48 90 c (all-first (between 48 90) c cs h)) in
     simp
     (ne-eqb c 0 some-byte)
-    (ap (_∷_ c) (up-to-padded n cs (and-right (between 48 90 c) (all (between 48 90) cs) h) (omega arith)))
+    (ap (_∷_ c) (up-to-padded n cs (all-rest (between 48 90) c cs h) (omega arith)))
 
 same-six : {a b c d e f a′ b′ c′ d′ e′ f′ : ℕ} → a ≡ a′ → b ≡ b′ → c ≡ c′ → d ≡ d′ → e ≡ e′ → f ≡ f′
     → a ∷ b ∷ c ∷ d ∷ e ∷ f ∷ [] ≡ a′ ∷ b′ ∷ c′ ∷ d′ ∷ e′ ∷ f′ ∷ []

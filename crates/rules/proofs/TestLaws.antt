@@ -29,7 +29,21 @@ between-low low high n h = leb-true low n (and-left (leb low n) (leb n high) h)
 pub between-high : (low high n : ℕ) → between low high n ≡ true → n ≤ high
 between-high low high n h = leb-true n high (and-right (leb low n) (leb n high) h)
 
+-- a test of every element: of the first and of the rest, weakened, of two lists, and at a place
 module _ {ℓ} {A : Type ℓ} where
+  module _ (p : A → Bool) (x : A) (xs : List A) where
+    pub all-cons : p x ≡ true → all p xs ≡ true → all p (x ∷ xs) ≡ true
+    unfolding all
+    all-cons h t = and-intro h t
+
+    pub all-first : all p (x ∷ xs) ≡ true → p x ≡ true
+    unfolding all
+    all-first h = and-left (p x) (all p xs) h
+
+    pub all-rest : all p (x ∷ xs) ≡ true → all p xs ≡ true
+    unfolding all
+    all-rest h = and-right (p x) (all p xs) h
+
   pub all-append : (p : A → Bool) (xs ys : List A) → all p (xs ++ ys) ≡ (all p xs && all p ys)
   unfolding all
   all-append p [] ys = refl
@@ -38,16 +52,25 @@ module _ {ℓ} {A : Type ℓ} where
   pub all-weaken : (p q : A → Bool) → ((x : A) → p x ≡ true → q x ≡ true) → (xs : List A) → all p xs ≡ true → all q xs ≡ true
   unfolding all
   all-weaken p q f [] h = refl
-  all-weaken p q f (x ∷ xs) h =
-      and-intro (f x (and-left (p x) (all p xs) h)) (all-weaken p q f xs (and-right (p x) (all p xs) h))
+  all-weaken p q f (x ∷ xs) h = and-intro (f x (all-first p x xs h)) (all-weaken p q f xs (all-rest p x xs h))
 
   pub all-at : (p : A → Bool) (xs : List A) (i : ℕ) (d : A) → all p xs ≡ true → i < length xs → p (getD xs i d) ≡ true
   unfolding all
   all-at p [] i d h l = absurd (not-suc-le-zero l)
-  all-at p (x ∷ xs) zero d h l = and-left (p x) (all p xs) h
-  all-at p (x ∷ xs) (suc i) d h l = all-at p xs i d (and-right (p x) (all p xs) h) (le-of-suc-le-suc l)
+  all-at p (x ∷ xs) zero d h l = all-first p x xs h
+  all-at p (x ∷ xs) (suc i) d h l = all-at p xs i d (all-rest p x xs h) (le-of-suc-le-suc l)
 
 -- something that holds of every element
 abbrev pub Every {ℓ} : {A : Type ℓ} → (A → Type 0) → List A → Type 0
 Every P [] = Unit {0}
 Every P (x ∷ xs) = P x × Every P xs
+
+pub every-add {ℓ} : {A : Type ℓ} (P : A → Type 0) (xs : List A) (y : A) → Every P xs → P y → Every P (xs ++ (y ∷ []))
+every-add P [] y h p = (p, tt)
+every-add P (x ∷ xs) y h p = (h .0, every-add P xs y (h .1) p)
+
+-- as a test
+pub every-all {ℓ} : {A : Type ℓ} (P : A → Type 0) (p : A → Bool) → ((x : A) → P x → p x ≡ true) → (xs : List A) → Every P xs → all p xs ≡ true
+unfolding all
+every-all P p f [] h = refl
+every-all P p f (x ∷ xs) h = and-intro (f x (h .0)) (every-all P p f xs (h .1))
