@@ -20,7 +20,7 @@ use Rattle.rules.specs.declared.reading.Step.{Step}
 use Rattle.rules.specs.declared.reading.Step.the-variants.{Stop, Next, Add, CloseModule, CloseSection}
 use Rattle.rules.specs.declared.reading.Reading.{Reading}
 use Rattle.rules.specs.declared.reading.Reading.the-variants.{Complete, Stopped}
-use Rattle.rules.proofs.AllLaws.{cond-keeps}
+use Rattle.rules.proofs.TestLaws.{cond-keeps}
 
 -- ---- reading
 

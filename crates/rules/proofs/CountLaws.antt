@@ -13,7 +13,7 @@ use Rattle.rules.specs.State.{Symbol, Word, unplaced, plain, refers, isP
 use Rattle.rules.specs.Placing.{Code, linked, putAll, clash}
 use Rattle.rules.specs.declared.line.Relocation.{Relocation}
 use Rattle.rules.specs.declared.line.Relocation.the-variants.{Plain, External, Unread}
-use Rattle.rules.proofs.AllLaws.{or-left, or-right, all-head, all-tail}
+use Rattle.rules.proofs.TestLaws.{or-left, or-right, all-first, all-rest}
 
 -- one word more
 count-set : (ws : List Word) (i : ℕ) (w : Word)
@@ -59,7 +59,7 @@ module _ (base : ℕ) (xs : List ℕ) (t : List Symbol) where
   put-count-from (c ∷ cs) ws vs e h k =
       let i : ℕ = base + c .address in
       let w = linked xs t (c .word .text) (c .word .relocation) in
-      let fits : i < length ws = ltb-true i (length ws) (all-head (below base (length ws)) c cs k) in
+      let fits : i < length ws = ltb-true i (length ws) (all-first (below base (length ws)) c cs k) in
       let taken : isPlaced (getD vs i unplaced) ≡ false =
       or-left (isPlaced (getD vs i unplaced)) (clash base cs (set vs i (plain 0))) h in
       let free : isPlaced (getD ws i unplaced) ≡ false = same-place ws vs i e ∙ taken in
@@ -71,7 +71,7 @@ module _ (base : ℕ) (xs : List ℕ) (t : List Symbol) where
       (set vs i (plain 0))
       (same-places ws vs i w (plain 0) e (linked-placed xs t (c .word .text) (c .word .relocation)))
       (or-right (isPlaced (getD vs i unplaced)) (clash base cs (set vs i (plain 0))) h)
-      (rw length-set (all-tail (below base (length ws)) c cs k)) in
+      (rw length-set (all-rest (below base (length ws)) c cs k)) in
       omega arith
 
   -- every word that is put at an unplaced address of its own counts one

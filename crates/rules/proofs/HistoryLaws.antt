@@ -8,7 +8,7 @@ use mathlib.Core.Option.{Option, none, some}
 use mathlib.Core.Path.{_≡_, refl, sym, ap, _∙_, subst}
 use lib.ListN.{length, getElem?}
 use lib.Dec.{eqb, ltb, leb}
-use borrow.Author.Tests.{eqb-true, ne-eqb, eq-eqb, leb-true}
+use borrow.Author.Tests.{ne-eqb, eq-eqb}
 use Rattle.rules.specs.Text.{all, between}
 use Rattle.rules.specs.Reading.{Module, Item, free, section, itemsOf}
 use Rattle.rules.specs.State.{State, Word, fresh, broken, marked, placedWords}
@@ -17,12 +17,14 @@ use Rattle.rules.specs.Search.{Places, nowhere, with}
 use Rattle.rules.specs.Load.{Walk, walking, refusedAt, accepted, place, wants, searched, sectionNames, testSection, Progress, progress, walkItem, walkItems}
 use Rattle.rules.specs.Calls.{holding, load, reset, asBefore, now}
 use Rattle.rules.specs.History.{Call, loading, forcing, basing, resetting, ending, stateAfter, called, calledAll, chosen, placedBy, placedFrom, codeCounts, countPlaced, countSince}
-use Rattle.rules.proofs.AllLaws.{all-head, all-tail, and-left}
+use Rattle.rules.proofs.TestLaws.{Every, every-found, between-low}
 use Rattle.rules.proofs.BoolLaws.{cond-cases, never, never-none}
 use Rattle.rules.proofs.SearchLaws.{search-keeps}
-use Rattle.rules.proofs.LoadLaws.{Ending, done, ahead, forFile, load-ends, load-done}
+use Rattle.rules.proofs.ReadingLaws.{ModuleSound, ItemSound, items-sound}
+use Rattle.rules.proofs.LoadLaws.{Ending, done, ahead, forFile, load-ends}
 use Rattle.rules.proofs.CallLaws.{force-words, base-words, end-words, fresh-size, fresh-count}
-use Rattle.rules.proofs.PlacingLaws.{PlacedBy, place-accepted, Coded, placed-length, placed-count}
+use Rattle.rules.proofs.PlacingLaws.{place-passed, Coded, placed-length, placed-count}
+use Rattle.rules.proofs.WalkLaws.{place-accepted, place-placed, items-accepted, load-accepted}
 
 -- ---- the modules of a set
 
@@ -63,44 +65,12 @@ unfolding codeCounts
 counts-append [] b = omega arith
 counts-append (m ∷ a) b = omega (arith, counts-append a b)
 
--- ---- a walk that ends accepted was accepted all along
+-- the test of a section changes no state
 
 pub test-state : (line : ℕ) (ms : List Module) (w : Walk) → testSection line ms w .state ≡ w .state
 unfolding testSection
 test-state line ms w =
     cond-cases (λ v. v .state ≡ w .state) (accepted w && twice (sectionNames ms)) (refusedAt 13 line (w .state)) w (λ _. refl) (λ _. refl)
-
-test-accepted : (line : ℕ) (ms : List Module) (w : Walk) → accepted (testSection line ms w) ≡ true → accepted w ≡ true
-unfolding testSection
-test-accepted line ms w =
-    cond-cases (λ v. accepted v ≡ true → accepted w ≡ true) (accepted w && twice (sectionNames ms)) (refusedAt 13 line (w .state)) w (λ _ h. never h refl) (λ _ h. h)
-
-item-accepted : (p : Progress) (i : Item) → accepted (walkItem p i .walk) ≡ true → accepted (p .walk) ≡ true
-unfolding walkItem searched
-item-accepted p (free m) h = place-accepted (p .walk) m h .before
-item-accepted p (section line ms) h =
-    test-accepted line ms (p .walk)
-    (search-keeps wants place (λ (t : Places) (w : Walk). accepted w ≡ true → accepted (testSection line ms (p .walk)) ≡ true) ms (testSection line ms (p .walk))
-    (λ i m t w _ _ _ back k. back (place-accepted w m k .before))
-    (λ k. k)
-    h)
-
-pub items-accepted : (is : List Item) (p : Progress) → accepted (walkItems p is .walk) ≡ true → accepted (p .walk) ≡ true
-unfolding walkItems
-items-accepted [] p h = h
-items-accepted (i ∷ is) p h = item-accepted p i (items-accepted is (walkItem p i) h)
-
--- ---- words along a walk
-
--- what a test says of every module of an item
-unfoldable pub eachModule : (Module → Bool) → Item → Bool
-eachModule p (free m) = p m
-eachModule p (section line ms) = all p ms
-
-pub all-found : {A : Type 0} (p : A → Bool) (xs : List A) (i : ℕ) {x : A} → all p xs ≡ true → getElem? xs i ≡ some x → p x ≡ true
-all-found p [] i h e = never-none e
-all-found p (y ∷ xs) zero {x} h e = let same : y ≡ x = cc in subst (λ z. p z ≡ true) same (all-head p y xs h)
-all-found p (y ∷ xs) (suc i) h e = all-found p xs i (all-tail p y xs h) e
 
 -- 4,096 words, of which n more are placed than before
 pub record Grown (n : ℕ) (before after : State) : Type 0 where
@@ -109,95 +79,97 @@ pub record Grown (n : ℕ) (before after : State) : Type 0 where
 
 -- a number from a positive one up
 positive : (a b k : ℕ) → between a b k ≡ true → 0 < a → k ≡ 0 → ⊥
-positive a b k h p e = omega (arith, leb-true a k (and-left (leb a k) (leb k b) h))
+positive a b k h p e = omega (arith, between-low a b k h)
 
-module _ (good : Module → Bool) (coded : (m : Module) → good m ≡ true → Coded m) where
-  -- an accepted module adds its counts
-  grown-module : (n : ℕ) (s : State) (w : Walk) (m : Module)
-      → good m ≡ true → Grown n s (w .state) → accepted (place w m) ≡ true → Grown (n + codeCount m) s (place w m .state)
-  grown-module n s w m g h k =
-      let p = place-accepted w m k in
-      let c = placed-count (w .state) m (h .size) (coded m g) (p .tests) in
-      rw (p .after) (record { size = placed-length (w .state) m ∙ h .size; count = omega arith })
+-- ---- words along a walk
 
-  grown-item : (p : Progress) (i : Item)
-      → eachModule good i ≡ true → length (p .walk .state .words) ≡ 4096 → accepted (walkItem p i .walk) ≡ true
-      → Grown (codeCounts (placedBy p i)) (p .walk .state) (walkItem p i .walk .state)
-  unfolding eachModule walkItem placedBy codeCounts searched
-  grown-item p (free m) g size h =
-      let r = grown-module 0 (p .walk .state) (p .walk) m g (record { size = size; count = omega arith }) h in
-      record { size = r .size; count = omega arith }
-  grown-item p (section line ms) g size h =
-      search-keeps
-      wants
-      place
-      (λ (t : Places) (w : Walk). accepted w ≡ true → Grown (codeCounts (chosen t 0 ms)) (p .walk .state) (w .state))
-      ms
-      (testSection line ms (p .walk))
-      (λ i m t w e out _ ih k.
-      let q = place-accepted w m k in
-      rw
-      (chosen-with t i 0 i ms m (omega arith) e out)
-      (grown-module (codeCounts (chosen t 0 ms)) (p .walk .state) w m (all-found good ms i g e) (ih (q .before)) k))
-      (λ _.
-      rw (test-state line ms (p .walk), chosen-nowhere 0 ms) (record { size = size; count = omega arith }))
-      h
+-- what the reading leaves is what placing counts on
+sound-coded : (m : Module) → ModuleSound m → Coded m
+sound-coded m h = record { as-many = h .counted; within = h .below }
 
-  pub grown-items : (is : List Item) (p : Progress)
-      → all (eachModule good) is ≡ true → length (p .walk .state .words) ≡ 4096 → accepted (walkItems p is .walk) ≡ true
-      → Grown (codeCounts (placedFrom p is)) (p .walk .state) (walkItems p is .walk .state)
-  unfolding walkItems placedFrom codeCounts
-  grown-items [] p g size h = record { size = size; count = omega arith }
-  grown-items (i ∷ is) p g size h =
-      let first =
-      grown-item
-      p
-      i
-      (all-head (eachModule good) i is g)
-      size
-      (items-accepted is (walkItem p i) h) in
-      let rest = grown-items is (walkItem p i) (all-tail (eachModule good) i is g) (first .size) h in
-      record {
-        size = rest .size;
-        count = omega (arith, counts-append (placedBy p i) (placedFrom (walkItem p i) is), first .count, rest .count);
-      }
+-- an accepted module adds its counts
+grown-module : (n : ℕ) (s : State) (w : Walk) (m : Module)
+    → ModuleSound m → Grown n s (w .state) → accepted (place w m) ≡ true → Grown (n + codeCount m) s (place w m .state)
+grown-module n s w m g h k =
+    let c = placed-count (w .state) m (h .size) (sound-coded m g) (place-passed w m k) in
+    rw (place-placed w m k) (record { size = placed-length (w .state) m ∙ h .size; count = omega arith })
 
-  -- ---- along calls
+grown-item : (p : Progress) (i : Item)
+    → ItemSound i → length (p .walk .state .words) ≡ 4096 → accepted (walkItem p i .walk) ≡ true
+    → Grown (codeCounts (placedBy p i)) (p .walk .state) (walkItem p i .walk .state)
+unfolding walkItem placedBy codeCounts searched
+grown-item p (free m) g size h =
+    let r = grown-module 0 (p .walk .state) (p .walk) m g (record { size = size; count = omega arith }) h in
+    record { size = r .size; count = omega arith }
+grown-item p (section line ms) g size h =
+    search-keeps
+    wants
+    place
+    (λ (t : Places) (w : Walk). accepted w ≡ true → Grown (codeCounts (chosen t 0 ms)) (p .walk .state) (w .state))
+    ms
+    (testSection line ms (p .walk))
+    (λ i m t w e out _ ih k.
+    rw
+    (chosen-with t i 0 i ms m (omega arith) e out)
+    (grown-module (codeCounts (chosen t 0 ms)) (p .walk .state) w m (every-found ModuleSound ms i (g .0) e) (ih (place-accepted w m k)) k))
+    (λ _.
+    rw (test-state line ms (p .walk), chosen-nowhere 0 ms) (record { size = size; count = omega arith }))
+    h
 
-  module _ (read : (file : List ℕ) → all (eachModule good) (itemsOf file) ≡ true) where
-    load-grown : (s : State) (file : List ℕ)
-        → length (s .words) ≡ 4096 → Grown (countPlaced s file) s (called s (loading file))
-    unfolding called countPlaced stateAfter
-    load-grown s file size = go (load-ends s true file)
-      where
-        go : Ending s (load (holding s) true file)
-            → Grown (countPlaced s file) s (called s (loading file))
-        go (done e) =
-            let d = load-done s file e in
-            let g = grown-items (itemsOf file) (progress (walking s) 0) (read file) size (d .walk) in
-            rw (eq-eqb (load (holding s) true file .answer .number) 0 e, d .left) g
-        go (ahead k _ _ l) =
-            rw (ne-eqb (load (holding s) true file .answer .number) 0 (positive 1 5 _ k (omega arith)), l) (record { size = size; count = omega arith })
-        go (forFile k _ l) =
-            rw (ne-eqb (load (holding s) true file .answer .number) 0 (positive 6 14 _ k (omega arith)), l) (record { size = size; count = omega arith })
+pub grown-items : (is : List Item) (p : Progress)
+    → Every ItemSound is → length (p .walk .state .words) ≡ 4096 → accepted (walkItems p is .walk) ≡ true
+    → Grown (codeCounts (placedFrom p is)) (p .walk .state) (walkItems p is .walk .state)
+unfolding walkItems placedFrom codeCounts
+grown-items [] p g size h = record { size = size; count = omega arith }
+grown-items (i ∷ is) p g size h =
+    let first =
+    grown-item
+    p
+    i
+    (g .0)
+    size
+    (items-accepted (walkItem p i) is h) in
+    let rest = grown-items is (walkItem p i) (g .1) (first .size) h in
+    record {
+      size = rest .size;
+      count = omega (arith, counts-append (placedBy p i) (placedFrom (walkItem p i) is), first .count, rest .count);
+    }
 
-    counted-from : (cs : List Call) (n : ℕ) (s : State)
-        → length (s .words) ≡ 4096 → placedWords (s .words) ≡ n → placedWords (calledAll s cs .words) ≡ countSince n s cs
-    unfolding calledAll countSince called reset stateAfter
-    counted-from [] n s size e = e
-    counted-from (loading file ∷ cs) n s size e =
-        let g = load-grown s file size in
-        counted-from cs (n + countPlaced s file) (called s (loading file)) (g .size) (omega (arith, g .count))
-    counted-from (forcing name ∷ cs) n s size e =
-        let same = force-words s name in
-        counted-from cs n (called s (forcing name)) (ap length same ∙ size) (ap placedWords same ∙ e)
-    counted-from (basing address ∷ cs) n s size e =
-        let same = base-words s address in
-        counted-from cs n (called s (basing address)) (ap length same ∙ size) (ap placedWords same ∙ e)
-    counted-from (resetting ∷ cs) n s size e = counted-from cs 0 fresh fresh-size fresh-count
-    counted-from (ending out ∷ cs) n s size e =
-        let same = end-words s out in
-        counted-from cs n (called s (ending out)) (ap length same ∙ size) (ap placedWords same ∙ e)
+-- ---- along calls
 
-    pub words-counted : (cs : List Call) → placedWords (calledAll fresh cs .words) ≡ countSince 0 fresh cs
-    words-counted cs = counted-from cs 0 fresh fresh-size fresh-count
+load-grown : (s : State) (file : List ℕ)
+    → length (s .words) ≡ 4096 → Grown (countPlaced s file) s (called s (loading file))
+unfolding called countPlaced stateAfter
+load-grown s file size = go (load-ends s true file)
+  where
+    go : Ending s (load (holding s) true file)
+        → Grown (countPlaced s file) s (called s (loading file))
+    go (done e) =
+        let d = load-accepted s file e in
+        let g = grown-items (itemsOf file) (progress (walking s) 0) (items-sound file) size (d .0) in
+        rw (eq-eqb (load (holding s) true file .answer .number) 0 e, d .1) g
+    go (ahead k _ _ l) =
+        rw (ne-eqb (load (holding s) true file .answer .number) 0 (positive 1 5 _ k (omega arith)), l) (record { size = size; count = omega arith })
+    go (forFile k _ l) =
+        rw (ne-eqb (load (holding s) true file .answer .number) 0 (positive 6 14 _ k (omega arith)), l) (record { size = size; count = omega arith })
+
+counted-from : (cs : List Call) (n : ℕ) (s : State)
+    → length (s .words) ≡ 4096 → placedWords (s .words) ≡ n → placedWords (calledAll s cs .words) ≡ countSince n s cs
+unfolding calledAll countSince called reset stateAfter
+counted-from [] n s size e = e
+counted-from (loading file ∷ cs) n s size e =
+    let g = load-grown s file size in
+    counted-from cs (n + countPlaced s file) (called s (loading file)) (g .size) (omega (arith, g .count))
+counted-from (forcing name ∷ cs) n s size e =
+    let same = force-words s name in
+    counted-from cs n (called s (forcing name)) (ap length same ∙ size) (ap placedWords same ∙ e)
+counted-from (basing address ∷ cs) n s size e =
+    let same = base-words s address in
+    counted-from cs n (called s (basing address)) (ap length same ∙ size) (ap placedWords same ∙ e)
+counted-from (resetting ∷ cs) n s size e = counted-from cs 0 fresh fresh-size fresh-count
+counted-from (ending out ∷ cs) n s size e =
+    let same = end-words s out in
+    counted-from cs n (called s (ending out)) (ap length same ∙ size) (ap placedWords same ∙ e)
+
+pub words-counted : (cs : List Call) → placedWords (calledAll fresh cs .words) ≡ countSince 0 fresh cs
+words-counted cs = counted-from cs 0 fresh fresh-size fresh-count

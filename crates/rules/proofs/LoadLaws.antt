@@ -7,7 +7,6 @@ use mathlib.Core.List.{List, [], _∷_}
 use mathlib.Core.Path.{_≡_, refl, sym, ap, _∙_}
 use lib.ListN.{length}
 use lib.Dec.{eqb, ltb, leb}
-use borrow.Author.Tests.{eqb-true, eqb-false, leb-true, not-true}
 use Rattle.rules.specs.Text.{between}
 use Rattle.rules.specs.Reading.{Module, Item, free, section, readingOf, itemsOf}
 use Rattle.rules.specs.State.{State, Mark, unmarked, broken, frozen, marked}
@@ -17,7 +16,7 @@ use Rattle.rules.specs.Load.{Walk, walking, refusedAt, accepted, tryPlac
 use Rattle.rules.specs.Calls.{Left, asBefore, now, Lent, holding, shutBy, LoadOutcome, loadStopped, loadOutcome, loadState, loadLent, load}
 use Rattle.rules.specs.declared.reading.Reading.{Reading}
 use Rattle.rules.specs.declared.reading.Reading.the-variants.{Complete, Stopped}
-use Rattle.rules.proofs.AllLaws.{cond-keeps, between-wider, and-left}
+use Rattle.rules.proofs.TestLaws.{cond-keeps, between-wider}
 use Rattle.rules.proofs.BoolLaws.{cond-cases}
 use Rattle.rules.proofs.SearchLaws.{search-keeps}
 use Rattle.rules.proofs.AnswerLaws.{readingNumber, reading-number, placingNumber, placing-number}
@@ -115,55 +114,3 @@ pub load-ends : (s : State) (work-fits : Bool) (file : List ℕ) → Ending s (l
 unfolding load loadLent
 load-ends s false file = ahead refl refl refl refl
 load-ends s true file = state-ends s file
-
--- ---- an accepted load
-
-pub record LoadDone (s : State) (file : List ℕ) (o : LoadOutcome) : Type 0 where
-  pub read : readingOf file ≡ Complete
-  pub walk : accepted (walkFrom s (itemsOf file) .walk) ≡ true
-  pub rounds : o .answer .rounds ≡ walkFrom s (itemsOf file) .rounds
-  pub left : o .left ≡ now (walkFrom s (itemsOf file) .walk .state)
-
--- a number that a test says is not 0
-not-zero : {A : Type 0} (k : ℕ) → k ≡ 0 → eqb k 0 ≡ false → A
-not-zero k e h = absurd (eqb-false k 0 h e)
-
-walked-done : (s : State) (file : List ℕ) (p : Progress)
-    → readingOf file ≡ Complete → p ≡ walkFrom s (itemsOf file) → loadOutcome (walked s p) .answer .number ≡ 0 → LoadDone s file (loadOutcome (walked s p))
-unfolding walked
-walked-done s file p r e =
-    cond-cases
-    (λ l. loadOutcome l .answer .number ≡ 0 → LoadDone s file (loadOutcome l))
-    (accepted (p .walk))
-    (record { number = 0; line = 0; rounds = p .rounds; state = p .walk .state })
-    (loadRefused (p .walk .number) (p .walk .line) (marked broken s))
-    (λ a _. record { read = r; walk = rw (← e) a; rounds = rw (← e); left = rw (← e) })
-    (λ a h. not-zero (p .walk .number) h a)
-
-read-done : (s : State) (file : List ℕ) (r : Reading)
-    → readingOf file ≡ r → loadOutcome (loadRead s file r) .answer .number ≡ 0 → LoadDone s file (loadOutcome (loadRead s file r))
-unfolding loadRead readingNumber
-read-done s file Complete e h = walked-done s file (walkFrom s (itemsOf file)) e refl h
-read-done s file (Stopped k n c) e h = absurd (omega (arith, low))
-  where
-    low : 6 ≤ k
-    low = leb-true 6 k (and-left (leb 6 k) (leb k 8) (rw e at (reading-number file)))
-
-pub load-done : (s : State) (file : List ℕ) → load (holding s) true file .answer .number ≡ 0 → LoadDone s file (load (holding s) true file)
-unfolding load loadLent loadState loadFile
-load-done s file =
-    let read = loadOutcome (loadFile s file) in
-    cond-cases
-    (λ o. o .answer .number ≡ 0 → LoadDone s file o)
-    (not (eqb (shutBy (s .mark)) 0))
-    (loadStopped (shutBy (s .mark)))
-    (cond (ltb 65536 (length file)) (loadStopped 5) read)
-    (λ e h. not-zero (shutBy (s .mark)) h (not-true (eqb (shutBy (s .mark)) 0) e))
-    (λ _.
-    cond-cases
-    (λ o. o .answer .number ≡ 0 → LoadDone s file o)
-    (ltb 65536 (length file))
-    (loadStopped 5)
-    read
-    (λ _ h. absurd (omega arith))
-    (λ _ h. read-done s file (readingOf file) refl h))

@@ -12,7 +12,7 @@ use Rattle.rules.specs.Reading.{Module}
 use Rattle.rules.specs.State.{Symbol, State, Word, placedWords}
 use Rattle.rules.specs.Placing.{Code, externals, code, moduleLength, codeCount, joined, linked, putAll, noRoom, overlaps, badArguments, outOfRange, duplicates, tableFull, placingFault, placed}
 use Rattle.rules.specs.Load.{Walk, walking, refusedAt, accepted, tryPlace, place}
-use Rattle.rules.proofs.AllLaws.{all-weaken}
+use Rattle.rules.proofs.TestLaws.{all-weaken}
 use Rattle.rules.proofs.BoolLaws.{cond-cases, never}
 use Rattle.rules.proofs.CountLaws.{below, put-count}
 
@@ -42,25 +42,18 @@ passed s m e =
     let g = not-this (tableFull s m) 13 0 (f .1) in
     record { room = a .0; apart = b .0; arguments = c .0; range = d .0; single = f .0; table = g .0 }
 
--- a walk that is accepted after a module was accepted before it, and the module was placed
-pub record PlacedBy (w : Walk) (m : Module) : Type 0 where
-  pub before : accepted w ≡ true
-  pub tests : Passed (w .state) m
-  pub after : place w m ≡ walking (placed (w .state) m)
-
-pub place-accepted : (w : Walk) (m : Module) → accepted (place w m) ≡ true → PlacedBy w m
+-- where a walk is accepted after a module, the module passed
+pub place-passed : (w : Walk) (m : Module) → accepted (place w m) ≡ true → Passed (w .state) m
 unfolding place tryPlace
-place-accepted w m h = go (accepted w) refl (eqb (placingFault s m) 0) refl h
-  where
-    s : State
-    s = w .state
-
-    go : (a : Bool) → accepted w ≡ a → (b : Bool) → eqb (placingFault s m) 0 ≡ b
-        → accepted (cond a (cond b (walking (placed s m)) (refusedAt (placingFault s m) (m .line) s)) w) ≡ true → PlacedBy w m
-    go true p true q k =
-        record { before = p; tests = passed s m (eqb-true (placingFault s m) 0 q); after = rw (p, q) }
-    go true p false q k = never k q
-    go false p b q k = never k p
+place-passed w m =
+    let s = w .state in
+    let tried = cond (eqb (placingFault s m) 0) (walking (placed s m)) (refusedAt (placingFault s m) (m .line) s) in
+    cond-cases (λ v. accepted v ≡ true → Passed s m) (accepted w) tried w
+    (λ _.
+    cond-cases (λ v. accepted v ≡ true → Passed s m) (eqb (placingFault s m) 0) (walking (placed s m)) (refusedAt (placingFault s m) (m .line) s)
+    (λ e _. passed s m (eqb-true (placingFault s m) 0 e))
+    (λ e h. never h e))
+    (λ e h. never h e)
 
 -- ---- words
 

@@ -114,7 +114,7 @@ module _ {M X : Type 0} (wants : X → M → Bool) (place : X → M → X) where
   search-keeps P ms x step p =
       rounds-keeps P ms
       (λ t y. round-keeps (λ r. P (r .taken) (r .now)) ms t y (λ i m e r. step i m (r .taken) (r .now) e))
-      (suc (length ms))
+      _
       nowhere
       x
       p

@@ -15,16 +15,19 @@ use Rattle.rules.specs.Search.{Places}
 use Rattle.rules.specs.Load.{Walk, walking, refusedAt, accepted, tryPlace, place, wants, searched, testSection, Progress, progress, walkItem, walkItems, walkFrom}
 use Rattle.rules.specs.Calls.{Left, asBefore, now, holding, load, force, base, reset, end, withSymbols}
 use Rattle.rules.specs.History.{Call, loading, forcing, basing, resetting, ending, stateAfter, called}
-use Rattle.rules.proofs.AllLaws.{all-head, all-tail, all-cons, all-weaken}
+use Rattle.rules.proofs.TestLaws.{Every, every-found, all-cons, all-weaken}
 use Rattle.rules.proofs.BoolLaws.{cond-cases}
 use Rattle.rules.proofs.NameLaws.{pack-legal}
 use Rattle.rules.proofs.SearchLaws.{search-keeps}
 use Rattle.rules.proofs.TableLaws.{different-mention}
 use Rattle.rules.proofs.PlacingLaws.{passed}
 use Rattle.rules.proofs.SoundLaws.{Sound, facts, whole, Legal, placed-sound, mention-each, mention-longer, soundWord-more}
-use Rattle.rules.proofs.LoadLaws.{Ending, done, ahead, forFile, load-ends, load-done}
+use Rattle.rules.proofs.LoadLaws.{Ending, done, ahead, forFile, load-ends}
+use Rattle.rules.proofs.WalkLaws.{load-accepted}
 use Rattle.rules.proofs.CallLaws.{force-cases, base-cases, end-cases, fresh-size}
-use Rattle.rules.proofs.HistoryLaws.{eachModule, all-found, test-state}
+use Rattle.rules.proofs.HistoryLaws.{test-state}
+use Rattle.rules.proofs.PartLaws.{legal-entries, legal-externals, legal-code}
+use Rattle.rules.proofs.ReadingLaws.{ModuleSound, ItemSound, items-sound as file-sound}
 
 -- the mark is no part of what soundness asks
 marked-sound : (k : Mark) (s : State) → Sound s → Sound (marked k s)
@@ -107,44 +110,51 @@ place-sound w m l h =
     (λ _. h))
     (λ _. h)
 
-module _ (good : Module → Bool) (legal : (m : Module) → good m ≡ true → Legal m) where
-  item-sound : (p : Progress) (i : Item) → eachModule good i ≡ true → Sound (p .walk .state) → Sound (walkItem p i .walk .state)
-  unfolding eachModule walkItem searched
-  item-sound p (free m) g h = place-sound (p .walk) m (legal m g) h
-  item-sound p (section line ms) g h =
-      search-keeps
-      wants
-      place
-      (λ (t : Places) (w : Walk). Sound (w .state))
-      ms
-      (testSection line ms (p .walk))
-      (λ i m t w e _ _. place-sound w m (legal m (all-found good ms i g e)))
-      (rw (test-state line ms (p .walk)) h)
+-- what the reading leaves is legal
+sound-legal : (m : Module) → ModuleSound m → Legal m
+sound-legal m h =
+    record {
+      entries-legal = legal-entries (m .parts) (h .legal);
+      externals-legal = legal-externals (m .parts) (h .legal);
+      code-legal = legal-code (m .parts) (h .legal);
+    }
 
-  items-sound : (is : List Item) (p : Progress) → all (eachModule good) is ≡ true → Sound (p .walk .state) → Sound (walkItems p is .walk .state)
-  unfolding walkItems
-  items-sound [] p g h = h
-  items-sound (i ∷ is) p g h =
-      items-sound is (walkItem p i) (all-tail (eachModule good) i is g) (item-sound p i (all-head (eachModule good) i is g) h)
+item-sound : (p : Progress) (i : Item) → ItemSound i → Sound (p .walk .state) → Sound (walkItem p i .walk .state)
+unfolding walkItem searched
+item-sound p (free m) g h = place-sound (p .walk) m (sound-legal m g) h
+item-sound p (section line ms) g h =
+    search-keeps
+    wants
+    place
+    (λ (t : Places) (w : Walk). Sound (w .state))
+    ms
+    (testSection line ms (p .walk))
+    (λ i m t w e _ _. place-sound w m (sound-legal m (every-found ModuleSound ms i (g .0) e)))
+    (rw (test-state line ms (p .walk)) h)
 
-  -- ---- LOAD
+items-sound : (is : List Item) (p : Progress) → Every ItemSound is → Sound (p .walk .state) → Sound (walkItems p is .walk .state)
+unfolding walkItems
+items-sound [] p g h = h
+items-sound (i ∷ is) p g h =
+    items-sound is (walkItem p i) (g .1) (item-sound p i (g .0) h)
 
-  module _ (read : (file : List ℕ) → all (eachModule good) (itemsOf file) ≡ true) where
-    load-sound : (s : State) (file : List ℕ) → Sound s → Sound (called s (loading file))
-    unfolding called stateAfter
-    load-sound s file h = go (load-ends s true file)
-      where
-        go : Ending s (load (holding s) true file) → Sound (stateAfter s (load (holding s) true file .left))
-        go (done e) =
-            rw (load-done s file e .left) (items-sound (itemsOf file) (progress (walking s) 0) (read file) h)
-        go (ahead _ _ _ l) = rw l h
-        go (forFile _ _ l) = rw l (marked-sound broken s h)
+-- ---- LOAD
 
-    -- "Demands 2 and 3 hold from every sound state": every call leaves one
-    pub called-sound : (s : State) (c : Call) → sound s ≡ true → sound (called s c) ≡ true
-    unfolding called reset stateAfter
-    called-sound s (loading file) h = whole (called s (loading file)) (load-sound s file (facts s h))
-    called-sound s (forcing name) h = whole (called s (forcing name)) (force-sound s name (facts s h))
-    called-sound s (basing address) h = whole (called s (basing address)) (base-sound s address (facts s h))
-    called-sound s resetting h = whole fresh fresh-sound
-    called-sound s (ending out) h = whole (called s (ending out)) (end-sound s out (facts s h))
+load-sound : (s : State) (file : List ℕ) → Sound s → Sound (called s (loading file))
+unfolding called stateAfter
+load-sound s file h = go (load-ends s true file)
+  where
+    go : Ending s (load (holding s) true file) → Sound (stateAfter s (load (holding s) true file .left))
+    go (done e) =
+        rw (load-accepted s file e .1) (items-sound (itemsOf file) (progress (walking s) 0) (file-sound file) h)
+    go (ahead _ _ _ l) = rw l h
+    go (forFile _ _ l) = rw l (marked-sound broken s h)
+
+-- "Demands 2 and 3 hold from every sound state": every call leaves one
+pub called-sound : (s : State) (c : Call) → sound s ≡ true → sound (called s c) ≡ true
+unfolding called reset stateAfter
+called-sound s (loading file) h = whole (called s (loading file)) (load-sound s file (facts s h))
+called-sound s (forcing name) h = whole (called s (forcing name)) (force-sound s name (facts s h))
+called-sound s (basing address) h = whole (called s (basing address)) (base-sound s address (facts s h))
+called-sound s resetting h = whole fresh fresh-sound
+called-sound s (ending out) h = whole (called s (ending out)) (end-sound s out (facts s h))

@@ -18,10 +18,9 @@ use Rattle.rules.specs.declared.line.Entry.{Entry}
 use Rattle.rules.specs.declared.line.Relocation.{Relocation}
 use Rattle.rules.specs.declared.line.Relocation.the-variants.{Plain, External, Unread}
 use Rattle.rules.proofs.LineLaws.{legalEntry, legalWord, legalRelocation}
-use Rattle.rules.proofs.TestLaws.{all-at}
 use Rattle.rules.proofs.TableLaws.{symbol-joined, different-joined}
 use Rattle.rules.proofs.PlacingLaws.{Passed, placed-length}
-use Rattle.rules.proofs.AllLaws.{and-intro, and-left, and-right, or-left, or-right, cond-keeps, all-head, all-tail, all-cons, all-set, all-weaken, any-head, any-tail}
+use Rattle.rules.proofs.TestLaws.{and-intro, and-left, and-right, or-left, or-right, cond-keeps, all-first, all-rest, all-cons, all-set, all-weaken, all-at, none-first, none-rest}
 
 -- ---- a sound state, fact by fact
 
@@ -83,8 +82,8 @@ define-each x v (s ∷ t) p q h =
     cond-keeps
     (all soundSymbol)
     (nameIs x s)
-    (all-cons soundSymbol (symbol x v true) t (defined-sound x v p q) (all-tail soundSymbol s t h))
-    (all-cons soundSymbol s (define x v t) (all-head soundSymbol s t h) (define-each x v t p q (all-tail soundSymbol s t h)))
+    (all-cons soundSymbol (symbol x v true) t (defined-sound x v p q) (all-rest soundSymbol s t h))
+    (all-cons soundSymbol s (define x v t) (all-first soundSymbol s t h) (define-each x v t p q (all-rest soundSymbol s t h)))
 
 pub mention-each : (x : ℕ) (t : List Symbol) → isPacked x ≡ true → all soundSymbol t ≡ true → all soundSymbol (mention x t) ≡ true
 unfolding mention
@@ -94,7 +93,7 @@ mention-each x (s ∷ t) p h =
     (all soundSymbol)
     (nameIs x s)
     h
-    (all-cons soundSymbol s (mention x t) (all-head soundSymbol s t h) (mention-each x t p (all-tail soundSymbol s t h)))
+    (all-cons soundSymbol s (mention x t) (all-first soundSymbol s t h) (mention-each x t p (all-rest soundSymbol s t h)))
 
 -- an entry with a legal name, whose value fits at a base
 pub fittingEntry : ℕ → Entry → Bool
@@ -122,12 +121,12 @@ defineAll-each : (base : ℕ) (es : List Entry) (t : List Symbol)
 unfolding defineAll fittingEntry
 defineAll-each base [] t l h = h
 defineAll-each base (e ∷ es) t l h =
-    let le = all-head (fittingEntry base) e es l in
+    let le = all-first (fittingEntry base) e es l in
     defineAll-each
     base
     es
     (define (e .name) (valueAt base e) t)
-    (all-tail (fittingEntry base) e es l)
+    (all-rest (fittingEntry base) e es l)
     (define-each
     (e .name)
     (valueAt base e)
@@ -141,7 +140,7 @@ mentionAll-each : (xs : List ℕ) (t : List Symbol)
 unfolding mentionAll
 mentionAll-each [] t l h = h
 mentionAll-each (x ∷ xs) t l h =
-    mentionAll-each xs (mention x t) (all-tail isPacked x xs l) (mention-each x t (all-head isPacked x xs l) h)
+    mentionAll-each xs (mention x t) (all-rest isPacked x xs l) (mention-each x t (all-first isPacked x xs l) h)
 
 -- ---- the table only grows
 
@@ -231,8 +230,8 @@ put-sound n base xs t [] ws l h = h
 put-sound n base xs t (c ∷ cs) ws l h =
     let w = linked xs t (c .word .text) (c .word .relocation) in
     let p : Code → Bool = λ c. soundWord n (linked xs t (c .word .text) (c .word .relocation)) in
-    put-sound n base xs t cs (set ws (base + c .address) w) (all-tail p c cs l)
-    (all-set (soundWord n) ws (base + c .address) w h (all-head p c cs l))
+    put-sound n base xs t cs (set ws (base + c .address) w) (all-rest p c cs l)
+    (all-set (soundWord n) ws (base + c .address) w h (all-first p c cs l))
 
 -- ---- a legal module
 
@@ -264,8 +263,8 @@ fitting base (e ∷ es) l r =
     (fittingEntry base)
     e
     es
-    (fits-at base e (all-head legalEntry e es l) (any-head _ e es r))
-    (fitting base es (all-tail legalEntry e es l) (any-tail _ e es r))
+    (fits-at base e (all-first legalEntry e es l) (none-first _ e es r))
+    (fitting base es (all-rest legalEntry e es l) (none-rest _ e es r))
 
 words-linked : (base : ℕ) (xs : List ℕ) (t : List Symbol) (cs : List Code)
     → all (λ x. isSymbol x t) xs ≡ true → all (λ c. legalWord (c .word)) cs ≡ true
@@ -283,10 +282,10 @@ words-linked base xs t (c ∷ cs) h l b =
     t
     (c .word .text)
     (c .word .relocation)
-    (ltb-true (c .word .text) (2 ^ 64) (and-left (ltb (c .word .text) (2 ^ 64)) (legalRelocation (c .word .relocation)) (all-head (λ c. legalWord (c .word)) c cs l)))
+    (ltb-true (c .word .text) (2 ^ 64) (and-left (ltb (c .word .text) (2 ^ 64)) (legalRelocation (c .word .relocation)) (all-first (λ c. legalWord (c .word)) c cs l)))
     h
-    (any-head (λ c. badArgument (length xs) (c .word .relocation)) c cs b))
-    (words-linked base xs t cs h (all-tail (λ c. legalWord (c .word)) c cs l) (any-tail (λ c. badArgument (length xs) (c .word .relocation)) c cs b))
+    (none-first (λ c. badArgument (length xs) (c .word .relocation)) c cs b))
+    (words-linked base xs t cs h (all-rest (λ c. legalWord (c .word)) c cs l) (none-rest (λ c. badArgument (length xs) (c .word .relocation)) c cs b))
 
 pub placed-sound : (s : State) (m : Module) → Sound s → Legal m → Passed s m → Sound (placed s m)
 unfolding placed joined noRoom badArguments outOfRange tableFull isExternal

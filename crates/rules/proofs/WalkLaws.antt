@@ -17,7 +17,8 @@ use Rattle.rules.specs.declared.reading.Reading.the-variants.{Complete, 
 use Rattle.rules.proofs.BoolLaws.{cond-cases, never}
 use Rattle.rules.proofs.SearchLaws.{search-keeps}
 use Rattle.rules.proofs.TableLaws.{different-joined}
-use Rattle.rules.proofs.ReadingLaws.{told, reading-told}
+use Rattle.rules.proofs.TestLaws.{between-low}
+use Rattle.rules.proofs.AnswerLaws.{readingNumber, reading-number}
 
 -- ---- a refused walk stays refused: where the walk is accepted afterwards, it was before
 
@@ -121,10 +122,10 @@ walked-accepted s p =
     (λ e _. (e, refl))
     (λ e h. absurd (eqb-false (p .walk .number) 0 e h))
 
-read-accepted : (s : State) (file : List ℕ) (r : Reading) → told r ≡ true → loadRead s file r .number ≡ 0 →
+read-accepted : (s : State) (file : List ℕ) (r : Reading) → readingNumber r ≡ true → loadRead s file r .number ≡ 0 →
     let p = walkFrom s (itemsOf file) in (accepted (p .walk) ≡ true) × (loadRead s file r ≡ accomplished p)
-unfolding loadRead
-read-accepted s file (Stopped k n c) t h = absurd (eqb-false k 0 (not-true (eqb k 0) t) h)
+unfolding loadRead readingNumber
+read-accepted s file (Stopped k n c) t h = absurd (omega (arith, between-low 6 8 k t))
 read-accepted s file Complete t h = walked-accepted s (walkFrom s (itemsOf file)) h
 
 -- an accepted load is what its walk comes to
@@ -145,4 +146,4 @@ load-accepted s file =
     (λ _.
     cond-cases (Comes p) (ltb 65536 (length file)) _ _
     (λ _ h. absurd (omega arith))
-    (λ _ h. let q = read-accepted s file (readingOf file) (reading-told file) h in (q .0, ap loadOutcome (q .1))))
+    (λ _ h. let q = read-accepted s file (readingOf file) (reading-number file) h in (q .0, ap loadOutcome (q .1))))
