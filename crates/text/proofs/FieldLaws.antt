@@ -1,0 +1,161 @@
+-- The fields of a line, one after the other, by the positions of their bounds.
+-- Assumes nothing.
+use Prim.Native.Nat.{ℕ, zero, suc, _+_, _-_, _≤_, _<_}
+use native.Mathlib.Nat.{add-zero}
+use native.Mathlib.Omega.{arith}
+use mathlib.Core.Bool.{Bool, true, false, cond, not, false≢true}
+use mathlib.Core.List.{List, [], _∷_}
+use mathlib.Core.Path.{_≡_, refl, sym, ap, ap₂, _∙_}
+use lib.ListN.{length, take, drop, getD, length-drop}
+use lib.Seq.{drop-drop}
+use lib.Dec.{eqb}
+use borrow.Author.Tests.{eq-eqb, ne-eqb}
+use denote.Ref.{RefT, now, ptr}
+use Rattle.rules.specs.Text.{space, Field, fieldsFrom, addToFields, startsField, widenField}
+use Rattle.text.specs.Scan.{part, run, past, isNot, InFile, Found}
+use Rattle.text.specs.FieldBounds.{isSpace, fieldStart, fieldStop, first, onward, NextField}
+use Rattle.text.proofs.ScanLaws.{run-yes, run-no, run-most, drop-part, take-part, length-part}
+
+-- how many bytes stand before the first space, and how many spaces before the first other byte
+abbrev width : List ℕ → ℕ
+width l = run (isNot space) l
+
+abbrev gap : List ℕ → ℕ
+gap l = run isSpace l
+
+abbrev field : ℕ → List ℕ → Field
+field c t = record { column = c; text = t }
+
+module _ (c b : ℕ) (rest : List ℕ) where
+  fields-space : eqb b space ≡ true → fieldsFrom c (b ∷ rest) ≡ fieldsFrom (c + 1) rest
+  unfolding fieldsFrom addToFields
+  fields-space e = simp e
+
+  module _ (e : eqb b space ≡ false) where
+    fields-more : startsField rest ≡ true → fieldsFrom c (b ∷ rest) ≡ widenField c b (fieldsFrom (c + 1) rest)
+    unfolding fieldsFrom addToFields
+    fields-more h = simp (e, h)
+
+    fields-end : startsField rest ≡ false → fieldsFrom c (b ∷ rest) ≡ field c (b ∷ []) ∷ fieldsFrom (c + 1) rest
+    unfolding fieldsFrom addToFields
+    fields-end h = simp (e, h)
+
+    width-more : width (b ∷ rest) ≡ suc (width rest)
+    width-more = run-yes (isNot space) b rest (ap not e)
+
+width-none : (l : List ℕ) → startsField l ≡ false → width l ≡ 0
+unfolding startsField run
+width-none [] h = refl
+width-none (b ∷ rest) h = run-no (isNot space) b rest h
+
+pub first-some : (f : Field) (others : List Field) → 0 < length (f .text) → first f others ≡ f ∷ others
+unfolding first
+first-some f others h = simp (ne-eqb (length (f .text)) 0 (λ e. omega arith))
+
+pub first-none : (f : Field) (others : List Field) → length (f .text) ≡ 0 → first f others ≡ []
+unfolding first
+first-none f others e = simp (eq-eqb (length (f .text)) 0 e)
+
+-- a text that starts with a field
+abbrev Starts : ℕ → List ℕ → Type 0
+Starts c l = fieldsFrom c l ≡ field c (take (width l) l) ∷ fieldsFrom (c + width l) (drop (width l) l)
+
+starts : (c b : ℕ) (rest : List ℕ) → eqb b space ≡ false → Starts c (b ∷ rest)
+unfolding startsField widenField
+starts c b [] e = rw (width-more c b [] e, width-none [] refl) (fields-end c b [] e refl)
+starts c b (x ∷ xs) e = go (eqb x space) refl (λ f. starts (c + 1) x xs f)
+  where
+    k : (w : ℕ) → c + 1 + w ≡ c + suc w
+    k w = omega arith
+
+    go : (t : Bool) → eqb x space ≡ t → (eqb x space ≡ false → Starts (c + 1) (x ∷ xs)) → Starts c (b ∷ x ∷ xs)
+    go true f ih =
+        rw (width-more c b (x ∷ xs) e, width-none (x ∷ xs) (ap not f)) (fields-end c b (x ∷ xs) e (ap not f))
+    go false f ih =
+        rw (width-more c b (x ∷ xs) e)
+        (fields-more c b (x ∷ xs) e (ap not f)
+        ∙ ap (widenField c b) (ih f)
+        ∙ ap (λ (n : ℕ). field c (b ∷ take (width (x ∷ xs)) (x ∷ xs)) ∷ fieldsFrom n (drop (width (x ∷ xs)) (x ∷ xs))) (k (width (x ∷ xs))))
+
+-- the fields of a text whose first byte, if any, is no space
+after : ℕ → List ℕ → List Field
+after c l = first (field c (take (width l) l)) (fieldsFrom (c + width l) (drop (width l) l))
+
+-- the spaces in front are passed over
+after-gap : (c : ℕ) (l : List ℕ) → fieldsFrom c l ≡ after (c + gap l) (drop (gap l) l)
+unfolding after fieldsFrom first run
+after-gap c [] = refl
+after-gap c (b ∷ rest) = go (eqb b space) refl (after-gap (c + 1) rest)
+  where
+    go : (t : Bool) → eqb b space ≡ t → fieldsFrom (c + 1) rest ≡ after (c + 1 + gap rest) (drop (gap rest) rest) → fieldsFrom c (b ∷ rest) ≡ after (c + gap (b ∷ rest)) (drop (gap (b ∷ rest)) (b ∷ rest))
+    go true e ih =
+        let k : c + 1 + gap rest ≡ c + suc (gap rest) = omega arith in
+        rw (run-yes isSpace b rest e) (fields-space c b rest e ∙ ih ∙ ap (λ (n : ℕ). after n (drop (gap rest) rest)) k)
+    go false e ih =
+        rw (run-no isSpace b rest e, add-zero) (starts c b rest e ∙ sym (first-some _ _ (rw (width-more c b rest e) (omega arith))))
+
+-- ---- the same by positions
+
+module _ (at stop : ℕ) (file : List ℕ) (i : InFile at stop file) where
+  gap-is : fieldStart at stop file ≡ at + gap (part at stop file)
+  unfolding fieldStart past
+  gap-is = refl
+
+  from-start : drop (gap (part at stop file)) (part at stop file) ≡ part (fieldStart at stop file) stop file
+  unfolding fieldStart past
+  from-start = drop-part at stop (gap (part at stop file)) file
+
+  width-is : fieldStop at stop file ≡ fieldStart at stop file + width (part (fieldStart at stop file) stop file)
+  unfolding fieldStop past
+  width-is = refl
+
+  pub start-least : at ≤ fieldStart at stop file
+  start-least = omega (arith, gap-is)
+
+  pub start-most : fieldStart at stop file ≤ stop
+  start-most =
+      omega
+      (arith, gap-is, run-most isSpace (part at stop file), length-part at stop file (i .size), i .order)
+
+  pub stop-least : fieldStart at stop file ≤ fieldStop at stop file
+  stop-least = omega (arith, width-is)
+
+  pub stop-most : fieldStop at stop file ≤ stop
+  stop-most =
+      let start = fieldStart at stop file in
+      omega
+      (arith, width-is, start-most, run-most (isNot space) (part start stop file), length-part start stop file (i .size))
+
+  -- the next field, and the fields of what stands behind it
+  pub next-field : (c : ℕ)
+      → fieldsFrom c (part at stop file)
+      ≡ first
+      (field (c + (fieldStart at stop file - at)) (part (fieldStart at stop file) (fieldStop at stop file) file))
+      (fieldsFrom (c + (fieldStop at stop file - at)) (part (fieldStop at stop file) stop file))
+  unfolding after
+  next-field c =
+      let start = fieldStart at stop file in
+      let w = width (part start stop file) in
+      let g : c + gap (part at stop file) ≡ c + (start - at) = omega (arith, gap-is) in
+      let n : c + (start - at) + w ≡ c + (fieldStop at stop file - at) = omega (arith, gap-is, width-is) in
+      let most : w ≤ stop - start = omega (arith, width-is, stop-most) in
+      after-gap c (part at stop file)
+      ∙ ap₂ after g from-start
+      ∙ ap₂
+      (λ (t : List ℕ) (fs : List Field). first (field (c + (start - at)) t) fs)
+      (take-part start stop w file most ∙ ap (λ (k : ℕ). part start k file) (sym width-is))
+      (ap₂ fieldsFrom n (drop-part start stop w file ∙ ap (λ (k : ℕ). part k stop file) (sym width-is)))
+
+-- the part between the two positions that the scans find is the next field
+pub lends-field : (at stop start end : ℕ) (file r : RefT (List ℕ)) → InFile at stop (now file)
+    → start ≡ fieldStart at stop (now file) → end ≡ past (isNot space) start stop (now file)
+    → now r ≡ part start end (now file) → ptr r ≡ onward start (ptr file) → NextField at stop file r
+unfolding fieldStop
+lends-field at stop start end file r i s e b p =
+    let n : end ≡ fieldStop at stop (now file) = e ∙ ap (λ (k : ℕ). past (isNot space) k stop (now file)) s in
+    let t : now r ≡ part (fieldStart at stop (now file)) (fieldStop at stop (now file)) (now file) = b ∙ ap₂ (λ (f g : ℕ). part f g (now file)) s n in
+    record {
+      bytes = t;
+      place = p ∙ ap (λ (k : ℕ). onward k (ptr file)) s;
+      fields = λ c. rw t (next-field at stop (now file) i c);
+    }

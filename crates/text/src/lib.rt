@@ -1,0 +1,4 @@
+// The lowest layer of the reader: line ends, fields, numbers and names, over the lent file.
+pub mod fields;
+pub mod lines;
+pub mod scan;
