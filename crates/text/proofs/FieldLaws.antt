@@ -14,7 +14,7 @@ use denote.Ref.{RefT, now, ptr}
 use Rattle.rules.specs.Text.{space, Field, fieldsFrom, addToFields, startsField, widenField}
 use Rattle.text.specs.Scan.{part, run, past, isNot, InFile, Found}
 use Rattle.text.specs.FieldBounds.{isSpace, fieldStart, fieldStop, first, onward, NextField}
-use Rattle.text.proofs.ScanLaws.{run-yes, run-no, run-most, drop-part, take-part, length-part}
+use Rattle.text.proofs.ScanLaws.{run-yes, run-no, run-most, drop-part, take-part, part-nil, past-again, length-part}
 
 -- how many bytes stand before the first space, and how many spaces before the first other byte
 abbrev width : List ℕ → ℕ
@@ -23,7 +23,7 @@ width l = run (isNot space) l
 abbrev gap : List ℕ → ℕ
 gap l = run isSpace l
 
-abbrev field : ℕ → List ℕ → Field
+abbrev pub field : ℕ → List ℕ → Field
 field c t = record { column = c; text = t }
 
 module _ (c b : ℕ) (rest : List ℕ) where
@@ -159,3 +159,67 @@ lends-field at stop start end file r i s e b p =
       place = p ∙ ap (λ (k : ℕ). onward k (ptr file)) s;
       fields = λ c. rw t (next-field at stop (now file) i c);
     }
+
+-- ---- for a loop over the fields: s is where the next field of the line from i to stop starts
+
+no-gap : (l : List ℕ) → gap l ≡ 0 → 0 < length l → 0 < width l
+no-gap [] e h = absurd (omega arith)
+no-gap (b ∷ rest) e h = go (eqb b space) refl
+  where
+    go : (t : Bool) → eqb b space ≡ t → 0 < width (b ∷ rest)
+    go true f = absurd (omega (arith, run-yes isSpace b rest f))
+    go false f = omega (arith, width-more 0 b rest f)
+
+-- a field of that text was found: the others stand behind it
+pub record FieldFound (i stop s : ℕ) (l t : List ℕ) : Type 0 where
+  pub some : 0 < length t
+  pub fits : s + length t ≤ stop
+  pub fields : (c : ℕ)
+      → fieldsFrom c (part i stop l)
+      ≡ field (c + (s - i)) t ∷ fieldsFrom (c + (s + length t - i)) (part (s + length t) stop l)
+
+module _ (i stop s : ℕ) (l : List ℕ) (h : InFile i stop l) (e : s ≡ fieldStart i stop l) where
+  -- where it starts with the line's end, there is none
+  pub no-field : s ≡ stop → (c : ℕ) → fieldsFrom c (part i stop l) ≡ []
+  no-field g c =
+      next-field i stop l h c
+      ∙ first-none _ _
+      (ap length (part-nil (fieldStart i stop l) (fieldStop i stop l) l (omega (arith, stop-most i stop l h))))
+
+  -- where it starts before that, it is what `next_field` hands back from there
+  module _ (g : s < stop) (t : List ℕ) (b : t ≡ part (fieldStart s stop l) (fieldStop s stop l) l) where
+    here : InFile s stop l
+    here = record { order = omega arith; size = h .size }
+
+    gap-zero : gap (part s stop l) ≡ 0
+    unfolding fieldStart
+    gap-zero = rw e (past-again isSpace i stop l)
+
+    start-same : fieldStart s stop l ≡ s
+    start-same = omega (arith, gap-is s stop l here, gap-zero)
+
+    stop-same : fieldStop s stop l ≡ fieldStop i stop l
+    unfolding fieldStop
+    stop-same = ap (λ (k : ℕ). past (isNot space) k stop l) (start-same ∙ e)
+
+    text-is : t ≡ part (fieldStart i stop l) (fieldStop i stop l) l
+    text-is = b ∙ ap₂ (λ (f n : ℕ). part f n l) (start-same ∙ e) stop-same
+
+    size-is : s + length t ≡ fieldStop i stop l
+    size-is =
+        omega
+        (arith, ap length text-is, length-part (fieldStart i stop l) (fieldStop i stop l) l (omega (arith, stop-most i stop l h, h .size)), stop-least i stop l h, e)
+
+    some : 0 < length t
+    some =
+        omega
+        (arith, size-is, stop-same, rw start-same at (width-is s stop l here), no-gap (part s stop l) gap-zero (omega (arith, length-part s stop l (h .size))))
+
+    pub field-found : FieldFound i stop s l t
+    field-found =
+        record {
+          some = some;
+          fits = omega (arith, size-is, stop-most i stop l h);
+          fields =
+              λ c. next-field i stop l h c ∙ rw (← text-is, ← size-is, ← e) (first-some _ _ some);
+        }

@@ -2,3 +2,6 @@
 pub mod ScanLaws
 pub mod LineLaws
 pub mod FieldLaws
+pub mod MarkerLaws
+pub mod NumberLaws
+pub mod NameLaws

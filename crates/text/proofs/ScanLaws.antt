@@ -7,11 +7,11 @@ use native.Mathlib.Omega.{arith}
 use mathlib.Core.Bool.{Bool, true, false, cond, _&&_}
 use mathlib.Core.List.{List, [], _∷_}
 use mathlib.Core.Path.{_≡_, refl, sym, ap, ap₂, _∙_}
-use lib.ListN.{length, take, drop, getD, length-take, length-drop}
+use lib.ListN.{length, take, drop, getD, length-take, length-drop, drop-of-length-le}
 use lib.Seq.{drop-cons, take-length, take-take, drop-drop, take-nil}
 use lib.Dec.{leb}
 use borrow.Author.Tests.{le-leb, lt-leb}
-use Rattle.rules.specs.Text.{between}
+use Rattle.rules.specs.Text.{between, all}
 use Rattle.text.specs.Scan.{part, run, past, Found}
 
 -- ---- parts
@@ -76,6 +76,20 @@ module _ (p : ℕ → Bool) where
       go true h = omega arith
       go false h = omega arith
 
+  -- a scan stops at once where it has stopped before
+  run-again : (l : List ℕ) → run p (drop (run p l) l) ≡ 0
+  unfolding run
+  run-again [] = refl
+  run-again (b ∷ rest) = go (p b) refl (run-again rest)
+    where
+      go : (t : Bool) → p b ≡ t → run p (drop (run p rest) rest) ≡ 0 → run p (drop (run p (b ∷ rest)) (b ∷ rest)) ≡ 0
+      go true e ih = rw (run-yes b rest e) ih
+      go false e ih = rw (run-no b rest e) (run-no b rest e)
+
+  pub past-again : (i e : ℕ) (l : List ℕ) → run p (part (past p i e l) e l) ≡ 0
+  unfolding past
+  past-again i e l = rw (← (drop-part i e (run p (part i e l)) l)) (run-again (part i e l))
+
   pub past-end : (i e : ℕ) (l : List ℕ) → e ≤ i → past p i e l ≡ i
   unfolding past run
   past-end i e l h = rw part-nil (add-zero i)
@@ -114,6 +128,22 @@ module _ {p : ℕ → Bool} {at e : ℕ} {l : List ℕ} {i : ℕ} (s : Scanned p
   pub scan-end : e ≤ i → Found at e (past p at e l) i
   scan-end h = record { is = sym (past-end p i e l h) ∙ s .same; least = s .from; most = s .to }
 
+-- ---- a test of all bytes
+
+module _ (p : ℕ → Bool) (i : ℕ) (l : List ℕ) where
+  pub all-end : length l ≤ i → all p (drop i l) ≡ true
+  unfolding all
+  all-end h = rw (drop-of-length-le l h)
+
+  module _ (h : i < length l) where
+    pub all-step : p (getD l i 0) ≡ true → all p (drop (i + 1) l) ≡ all p (drop i l)
+    unfolding all
+    all-step b = rw (drop-cons l i 0, add-one, b)
+
+    pub all-stop : p (getD l i 0) ≡ false → all p (drop i l) ≡ false
+    unfolding all
+    all-stop b = rw (drop-cons l i 0, b)
+
 -- ---- tests on a byte
 
 pub and-false : (b : Bool) → b && false ≡ false
@@ -129,3 +159,11 @@ module _ (low high b : ℕ) where
 
   pub between-high : high < b → between low high b ≡ false
   between-high h = simp (lt-leb b high h) (and-false (leb low b))
+
+-- a text of no byte, and one of more than six, is no number and no name
+module _ (l : List ℕ) (rest : Bool) where
+  pub too-short : length l ≡ 0 → between 1 6 (length l) && rest ≡ false
+  too-short e = simp (between-low 1 6 (length l) (omega arith))
+
+  pub too-long : 6 < length l → between 1 6 (length l) && rest ≡ false
+  too-long h = simp (between-high 1 6 (length l) h)
