@@ -1,18 +1,17 @@
 -- The fields of a line, one after the other, by the positions of their bounds.
 -- Assumes nothing.
-use Prim.Native.Nat.{ℕ, zero, suc, _+_, _-_, _≤_, _<_}
+use Prim.Native.Nat.{ℕ, suc, _+_, _-_, _≤_, _<_}
 use native.Mathlib.Nat.{add-zero}
 use native.Mathlib.Omega.{arith}
-use mathlib.Core.Bool.{Bool, true, false, cond, not, false≢true}
+use mathlib.Core.Bool.{Bool, true, false, not}
 use mathlib.Core.List.{List, [], _∷_}
 use mathlib.Core.Path.{_≡_, refl, sym, ap, ap₂, _∙_}
-use lib.ListN.{length, take, drop, getD, length-drop}
-use lib.Seq.{drop-drop}
+use lib.ListN.{length, take, drop}
 use lib.Dec.{eqb}
 use borrow.Author.Tests.{eq-eqb, ne-eqb}
 use denote.Ref.{RefT, now, ptr}
 use Rattle.rules.specs.Text.{space, Field, fieldsFrom, addToFields, startsField, widenField}
-use Rattle.text.specs.Scan.{part, run, past, isNot, InFile, Found}
+use Rattle.text.specs.Scan.{part, run, past, isNot, InFile}
 use Rattle.text.specs.FieldBounds.{isSpace, fieldStart, fieldStop, first, onward, NextField}
 use Rattle.text.proofs.ScanLaws.{run-yes, run-no, run-most, drop-part, take-part, part-nil, past-again, length-part}
 

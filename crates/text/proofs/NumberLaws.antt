@@ -1,21 +1,19 @@
 -- A number's digits, one after the other.
 -- Assumes nothing.
-use Prim.Native.Nat.{ℕ, zero, suc, _+_, _-_, _*_, _^_, _≤_, _<_}
+use Prim.Native.Nat.{ℕ, _+_, _-_, _*_, _^_, _≤_, _<_}
 use native.Mathlib.Nat.{pow-le-pow-right}
 use native.Mathlib.Omega.{arith}
 use native.Mathlib.Numerals.{add-one}
-use mathlib.Core.Bool.{Bool, true, false, cond, _&&_}
-use mathlib.Core.List.{List, [], _∷_}
-use mathlib.Core.Option.{none, some}
+use mathlib.Core.Bool.{false}
+use mathlib.Core.List.{List, _∷_}
 use mathlib.Core.Path.{_≡_, refl, sym, ap, _∙_}
 use lib.ListN.{length, drop, getD, drop-of-length-le}
 use lib.Seq.{drop-cons}
-use lib.Dec.{eqb, leb}
 use borrow.Author.Tests.{le-leb, lt-leb}
-use Rattle.rules.specs.Text.{between, all, isOctal, octal, isNumber, numberOf}
+use Rattle.rules.specs.Text.{all, isOctal, octal, isNumber, numberOf}
 use Rattle.text.specs.Answers.{asNumber}
 use Rattle.text.specs.declared.numbers.Number.the-variants.{Value, NotANumber}
-use Rattle.text.proofs.ScanLaws.{all-step, all-stop, all-end, between-yes, between-low, between-high, and-false, too-short, too-long}
+use Rattle.text.proofs.ScanLaws.{all-step, all-stop, all-end, between-yes, and-false, too-short, too-long}
 
 -- ---- which answer
 

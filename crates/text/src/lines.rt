@@ -1,7 +1,7 @@
 // The lines of a file.
 use crate::scan::find_byte;
 ghost use mathlib.Core.Path.{_≡_};
-ghost use Prim.Native.Nat.{_<_, _≤_, _-_};
+ghost use Prim.Native.Nat.{_<_};
 ghost use lib.ListN.{length};
 ghost use Rattle.rules.specs.Text.{legalFront};
 ghost use Rattle.text.specs.Scan.{part, InFile, Found};
@@ -52,10 +52,11 @@ fn legal_end(file: &[u8], at: usize, end: usize) -> usize
 {
     let mut i = at;
     while i < end {
-        if file[i] < 32 {
+        let byte = file[i];
+        if byte < 32 {
             return i;
         }
-        if 126 < file[i] {
+        if 126 < byte {
             return i;
         }
         i += 1;

@@ -19,10 +19,10 @@ fn same_text(a: &[u8], b: &[u8]) -> bool
     true
 }
 
-// Where the marker of each block starts in MARKERS, by its code; it stops where the next one starts. There is no block 2.
+// Where the marker of each block starts in the text of all markers, by its code: it stops where the next one starts. No block has code 2.
 const STARTS: [usize; 13] = [0, 7, 13, 13, 21, 29, 35, 41, 47, 54, 61, 67, 76];
 
-// Is the field the marker of the block with this code? A code that no block has has an empty one.
+// Is the field the marker of the block with this code? Where there is no such block, the marker is empty.
 pub fn is_marker(field: &[u8], code: u16) -> bool
     ensures { λ r. ⌜ r ≡ sameText (now (field .entry)) (markerOf code) ⌝ }
 {

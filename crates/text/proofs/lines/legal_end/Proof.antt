@@ -16,20 +16,17 @@ abbrev μ-loop : tie.MeasureT-loop
 loop-holds : tie.Need-loop-holds Inv-loop μ-loop
 loop-holds c = scan-start isLegal _ _ _ (search needs) (search needs)
 
-shared-slice-read-if1 : tie.Need-shared-slice-read-if1 Inv-loop μ-loop
-shared-slice-read-if1 c = search needs
+shared-slice-read-byte : tie.Need-shared-slice-read-byte Inv-loop μ-loop
+shared-slice-read-byte c = search needs
 
 returns : tie.Need-returns Inv-loop μ-loop
 unfolding legalEnd
 returns c = scan-stop (c .before .before .before .loop .inv) (search needs) (between-low 32 126 _ (c .if1 .taken))
 
-shared-slice-read-if2 : tie.Need-shared-slice-read-if2 Inv-loop μ-loop
-shared-slice-read-if2 c = search needs
-
 returns-2 : tie.Need-returns-2 Inv-loop μ-loop
 unfolding legalEnd
 returns-2 c =
-    scan-stop (c .before .before .before .before .before .loop .inv) (search needs)
+    scan-stop (c .before .before .before .before .loop .inv) (search needs)
     (between-high 32 126 _ (c .if2 .taken))
 
 add-i : tie.Need-add-i Inv-loop μ-loop
@@ -40,8 +37,8 @@ loop-less c = search needs
 
 loop-again : tie.Need-loop-again Inv-loop μ-loop
 loop-again c =
-    scan-step (c .before .before .before .before .before .loop .inv) (search needs)
-    (between-yes 32 126 _ (c .before .before .if1 .left) (c .if2 .left))
+    scan-step (c .before .before .before .before .loop .inv) (search needs)
+    (between-yes 32 126 _ (c .before .if1 .left) (c .if2 .left))
 
 returns-3 : tie.Need-returns-3 Inv-loop μ-loop
 unfolding legalEnd
@@ -54,9 +51,8 @@ legal-end-spec =
     Inv-loop
     μ-loop
     loop-holds
-    shared-slice-read-if1
+    shared-slice-read-byte
     returns
-    shared-slice-read-if2
     returns-2
     add-i
     loop-less

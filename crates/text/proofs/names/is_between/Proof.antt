@@ -1,6 +1,5 @@
 -- `text::names::is_between` meets its contract: by the first test.
 -- Assumes nothing.
-use mathlib.Core.Path.{sym}
 use borrow.Author.Tests.{le-leb, lt-leb}
 use Rattle.text.proofs.names.is_between.Statement.{statement}
 use Rattle.text.proofs.names.is_between.Tie as tie
