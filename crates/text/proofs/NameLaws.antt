@@ -1,0 +1,84 @@
+-- A name's characters, one after the other.
+-- Assumes nothing.
+use Prim.Native.Nat.{ℕ, _+_, _≤_, _<_}
+use native.Mathlib.Omega.{arith}
+use mathlib.Core.Bool.{true, false}
+use mathlib.Core.List.{List}
+use mathlib.Core.Path.{_≡_, sym, _∙_}
+use lib.ListN.{length, drop, getD}
+use Rattle.rules.specs.Text.{between, all, isLetter, isLetterOrDigit, isName, packName, nameOf}
+use Rattle.text.specs.Answers.{asName}
+use Rattle.text.specs.declared.names.Name.the-variants.{Packed, NotAName}
+use Rattle.text.proofs.ScanLaws.{all-step, all-stop, all-end, between-yes, and-false, too-short, too-long}
+
+-- ---- one character
+
+module _ (b : ℕ) where
+  pub letter : isLetter b ≡ true → isLetterOrDigit b ≡ true
+  letter e = simp e
+
+  pub no-letter : isLetter b ≡ false → isLetterOrDigit b ≡ between 48 57 b
+  no-letter e = simp e
+
+-- ---- which answer
+
+pub name-short : (f : List ℕ) → length f ≡ 0 → isName f ≡ false
+unfolding isName
+name-short f e = too-short f _ e
+
+pub name-long : (f : List ℕ) → 6 < length f → isName f ≡ false
+unfolding isName
+name-long f h = too-long f _ h
+
+pub name-first : (f : List ℕ) → isLetter (getD f 0 0) ≡ false → isName f ≡ false
+unfolding isName
+name-first f e = simp (e, and-false)
+
+pub no-name : (f : List ℕ) → isName f ≡ false → NotAName ≡ asName (nameOf f)
+unfolding nameOf asName
+no-name f e = simp e
+
+pub a-name : (f : List ℕ) → isName f ≡ true → Packed (packName f) ≡ asName (nameOf f)
+unfolding nameOf asName
+a-name f e = simp e
+
+-- ---- the loop
+
+-- i characters are read: what is left decides
+pub record Characters (f : List ℕ) (i : ℕ) : Type 0 where
+  pub some : 0 < length f
+  pub few : length f ≤ 6
+  pub to : i ≤ length f
+  pub first : isLetter (getD f 0 0) ≡ true
+  pub same : all isLetterOrDigit (drop i f) ≡ all isLetterOrDigit f
+
+pub characters-start : (f : List ℕ) → (length f ≡ 0 → ⊥) → length f ≤ 6 → isLetter (getD f 0 0) ≡ true → Characters f 1
+characters-start f h g e =
+    let some : 0 < length f = omega arith in
+    record {
+      some = some;
+      few = g;
+      to = some;
+      first = e;
+      same = all-step isLetterOrDigit 0 f some (letter (getD f 0 0) e);
+    }
+
+module _ {f : List ℕ} {i : ℕ} (s : Characters f i) where
+  pub characters-bad : i < length f → isLetterOrDigit (getD f i 0) ≡ false → isName f ≡ false
+  unfolding isName
+  characters-bad h b = simp (sym (s .same) ∙ all-stop isLetterOrDigit i f h b, and-false)
+
+  pub characters-step : i < length f → isLetterOrDigit (getD f i 0) ≡ true → Characters f (i + 1)
+  characters-step h b =
+      record {
+        some = s .some;
+        few = s .few;
+        to = omega arith;
+        first = s .first;
+        same = all-step isLetterOrDigit i f h b ∙ s .same;
+      }
+
+  pub characters-end : length f ≤ i → isName f ≡ true
+  unfolding isName
+  characters-end h =
+      simp (between-yes 1 6 (length f) (s .some) (s .few), s .first, sym (s .same) ∙ all-end isLetterOrDigit i f h)

@@ -1,0 +1,4 @@
+pub mod Scan
+pub mod LineEnds
+pub mod FieldBounds
+pub mod Answers

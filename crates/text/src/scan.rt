@@ -1,0 +1,17 @@
+// Scanning.
+ghost use Rattle.text.specs.Scan.{InFile, Found, isNot, past};
+
+// The first position from `at` on with that byte, or `stop`.
+pub fn find_byte(file: &[u8], at: usize, stop: usize, byte: u8) -> usize
+    requires { ⌜ InFile at stop (now file) ⌝ }
+    ensures { λ r. ⌜ Found at stop (past (isNot byte) at stop (now (file .entry))) r ⌝ }
+{
+    let mut i = at;
+    while i < stop {
+        if file[i] == byte {
+            return i;
+        }
+        i += 1;
+    }
+    i
+}
