@@ -1,0 +1,5 @@
+pub mod BoolLaws
+pub mod ListLaws
+pub mod RegionLaws
+pub mod LayoutLaws
+pub mod HeaderLaws

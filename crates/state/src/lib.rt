@@ -1,0 +1,2 @@
+// The layout of state memory, its soundness, and the functions that read and change what it holds.
+mod header;
