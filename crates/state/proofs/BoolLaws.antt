@@ -18,3 +18,23 @@ pub same-test : (a b : Bool) → (a ≡ true → b ≡ true) → (b ≡ true →
 same-test true b f g = sym (f refl)
 same-test false true f g = g refl
 same-test false false f g = refl
+
+pub neither : (a b : Bool) → a ≡ false → b ≡ false → a || b ≡ false
+neither a b p q = simp (p, q)
+
+pub not-first : (a b : Bool) → a || b ≡ false → a ≡ false
+not-first true b e = e
+not-first false b e = refl
+
+pub not-second : (a b : Bool) → a || b ≡ false → b ≡ false
+not-second true true e = e
+not-second true false e = refl
+not-second false b e = e
+
+pub or-false : (a : Bool) → a || false ≡ a
+or-false true = refl
+or-false false = refl
+
+pub not-not : (a : Bool) → not (not a) ≡ a
+not-not true = refl
+not-not false = refl

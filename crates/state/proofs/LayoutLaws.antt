@@ -5,7 +5,7 @@ use mathlib.Core.List.{List, [], _∷_, _++_, map}
 use mathlib.Core.Path.{_≡_, refl, sym, ap, ap₂, subst, _∙_}
 use native.Mathlib.Omega.{arith}
 use borrow.Author.Tests.{leb-true, eqb-true, ne-eqb}
-use lib.ListN.{length, getD, length-map, List·getD-map}
+use lib.ListN.{length, getD, length-map, List·getD-map, List·getD-eq-default}
 use lib.Dec.{eqb, leb}
 use Rattle.rules.specs.Text.{all}
 use Rattle.rules.specs.State.{Symbol, symbol, Word, unplaced, plain, refers, Mark, unmarked, broken, frozen, State, state}
@@ -142,3 +142,10 @@ symbol-is cells i h = getD-map-range (symbolIn cells) (getD cells 0 0) i noSymbo
 pub word-is : (cells : List ℕ) (a : ℕ) → a < 4096 → getD (decode cells .words) a unplaced ≡ wordIn cells a
 unfolding decode wordsFrom
 word-is cells a h = getD-map-range (wordIn cells) 4096 a unplaced h
+
+-- the value cells behind the last symbol's
+pub unused-value : (cells : List ℕ) → Good cells → (i : ℕ) → getD cells 0 0 ≤ i → i < 256 → getD cells (260 + i) 0 ≡ 0
+unused-value cells g i b h =
+    ap (λ (l : List ℕ). getD l (260 + i) 0) (g .encoded)
+    ∙ encode-value (decode cells) (g .tidy .few) i h
+    ∙ List·getD-eq-default (map valueCell (decode cells .symbols)) 0 (omega (arith, length-map (decode cells .symbols) valueCell, count-is cells))

@@ -3,3 +3,6 @@ pub mod ListLaws
 pub mod RegionLaws
 pub mod LayoutLaws
 pub mod HeaderLaws
+pub mod SymbolLaws
+pub mod JoinLaws
+pub mod TableLaws

@@ -202,3 +202,8 @@ pub at-all : {A : Type 0} (p : A → Bool) (l : List A) (d : A) → ((i : ℕ) �
 unfolding all
 at-all p [] d h = refl
 at-all p (x ∷ l) d h = both (p x) (all p l) (h 0 (omega arith)) (at-all p l d (λ i b. h (suc i) (omega arith)))
+
+pub all-weaken : {A : Type 0} (p q : A → Bool) → ((x : A) → p x ≡ true → q x ≡ true) → (l : List A) → all p l ≡ true → all q l ≡ true
+unfolding all
+all-weaken p q h [] e = refl
+all-weaken p q h (x ∷ l) e = both (q x) (all q l) (h x (first (p x) (all p l) e)) (all-weaken p q h l (second (p x) (all p l) e))

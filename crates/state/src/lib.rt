@@ -1,2 +1,3 @@
 // The layout of state memory, its soundness, and the functions that read and change what it holds.
-mod header;
+pub mod header;
+pub mod table;
