@@ -6,3 +6,5 @@ pub mod HeaderLaws
 pub mod SymbolLaws
 pub mod JoinLaws
 pub mod TableLaws
+pub mod WordLaws
+pub mod FreshLaws

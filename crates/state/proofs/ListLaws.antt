@@ -2,7 +2,7 @@
 use Prim.Native.Nat.{ℕ, zero, suc, _+_, _-_, _≤_, _<_, max}
 use mathlib.Core.Bool.{Bool, true, false, cond, not, _&&_}
 use mathlib.Core.List.{List, [], _∷_, _++_, map}
-use mathlib.Core.Path.{_≡_, refl, sym, ap, _∙_}
+use mathlib.Core.Path.{_≡_, refl, sym, ap, ap₂, _∙_}
 use native.Mathlib.Nat.{zero-add, suc-add, sub-zero, suc-sub-suc, not-suc-le-zero, le-of-suc-le-suc}
 use native.Mathlib.Numerals.{add-one}
 use native.Mathlib.Omega.{arith}
@@ -57,6 +57,10 @@ pub map-set : {A B : Type 0} (f : A → B) (i : ℕ) (a : A) (l : List A) → ma
 map-set f i a [] = refl
 map-set f zero a (x ∷ l) = refl
 map-set {B = B} f (suc i) a (x ∷ l) = ap (λ (r : List B). f x ∷ r) (map-set f i a l)
+
+pub map-last : {A B : Type 0} (f : A → B) (l : List A) (x : A) → map f (l ++ (x ∷ [])) ≡ map f l ++ (f x ∷ [])
+map-last f [] x = refl
+map-last {B = B} f (y ∷ l) x = ap (λ (r : List B). f y ∷ r) (map-last f l x)
 
 pub map-replicate : {A B : Type 0} (f : A → B) (n : ℕ) (a : A) → map f (replicate n a) ≡ replicate n (f a)
 map-replicate f zero a = refl
@@ -119,6 +123,17 @@ unfolding range numbers
 range-end a b h =
     let e : b - a ≡ 0 = omega arith in
     ap (numbers a) e
+
+numbers-last : (a n : ℕ) → numbers a (suc n) ≡ numbers a n ++ ((a + n) ∷ [])
+unfolding numbers
+numbers-last a zero = ap (λ (k : ℕ). k ∷ []) (omega arith)
+numbers-last a (suc n) =
+    ap (λ (l : List ℕ). a ∷ l) (numbers-last (a + 1) n ∙ ap (λ (k : ℕ). numbers (a + 1) n ++ (k ∷ [])) (omega arith))
+
+pub range-last : (b : ℕ) → range 0 (b + 1) ≡ range 0 b ++ (b ∷ [])
+unfolding range
+range-last b =
+    ap (numbers 0) (omega arith) ∙ numbers-last 0 b ∙ ap₂ (λ (m k : ℕ). numbers 0 m ++ (k ∷ [])) (omega arith) (omega arith)
 
 length-numbers : (a n : ℕ) → length (numbers a n) ≡ n
 unfolding numbers
@@ -207,3 +222,14 @@ pub all-weaken : {A : Type 0} (p q : A → Bool) → ((x : A) → p x ≡ true �
 unfolding all
 all-weaken p q h [] e = refl
 all-weaken p q h (x ∷ l) e = both (q x) (all q l) (h x (first (p x) (all p l) e)) (all-weaken p q h l (second (p x) (all p l) e))
+
+pub all-set : {A : Type 0} (p : A → Bool) (l : List A) (i : ℕ) (a : A) → p a ≡ true → all p l ≡ true → all p (set l i a) ≡ true
+unfolding all
+all-set p [] i a t e = refl
+all-set p (x ∷ l) zero a t e = both (p a) (all p l) t (second (p x) (all p l) e)
+all-set p (x ∷ l) (suc i) a t e = both (p x) (all p (set l i a)) (first (p x) (all p l) e) (all-set p l i a t (second (p x) (all p l) e))
+
+pub all-replicate : {A : Type 0} (p : A → Bool) (n : ℕ) (a : A) → p a ≡ true → all p (replicate n a) ≡ true
+unfolding all
+all-replicate p zero a e = refl
+all-replicate p (suc n) a e = both (p a) (all p (replicate n a)) e (all-replicate p n a e)

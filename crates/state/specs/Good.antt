@@ -6,7 +6,7 @@ use mathlib.Core.Path.{_≡_}
 use lib.ListN.{length, getD}
 use lib.Dec.{eqb, leb}
 use Rattle.rules.specs.Text.{all}
-use Rattle.rules.specs.State.{Symbol, State, state, differentNames, soundWord}
+use Rattle.rules.specs.State.{Symbol, Word, State, state, differentNames, soundWord}
 use Rattle.state.specs.Layout.{size, encode, decode}
 
 -- a value has sixteen bits, and is 0 where the symbol is undefined
@@ -37,3 +37,6 @@ pub record Holds (cells : List ℕ) (s : State) : Type 0 where
 
 abbrev pub withNext : ℕ → State → State
 withNext n s = state (s .symbols) (s .words) n (s .mark)
+
+abbrev pub withWords : List Word → State → State
+withWords ws s = state (s .symbols) ws (s .next) (s .mark)
