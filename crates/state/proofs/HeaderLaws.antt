@@ -1,0 +1,69 @@
+-- The header's cells.
+use Prim.Native.Nat.{ℕ, _≤_}
+use mathlib.Core.Bool.{Bool, true, false, cond}
+use mathlib.Core.List.{List}
+use mathlib.Core.Logic.{_≢_}
+use mathlib.Core.Path.{_≡_, refl, ap, _∙_}
+use native.Mathlib.Omega.{arith}
+use borrow.Author.Tests.{eqb-true, eqb-false}
+use lib.ListN.{length, getD, set}
+use lib.Dec.{eqb}
+use Rattle.rules.specs.State.{Mark, unmarked, broken, frozen, State, state, marked}
+use Rattle.rules.specs.Calls.{shutBy}
+use Rattle.state.specs.Layout.{encode, decode, markCell, markOf}
+use Rattle.state.specs.Good.{Tidy, Good, Holds, withNext}
+use Rattle.state.proofs.LayoutLaws.{holds}
+
+pub next-set : (cells : List ℕ) (n : ℕ) → Good cells → n ≤ 4096 → Holds (set cells 1 n) (withNext n (decode cells))
+unfolding encode
+next-set cells n g b =
+    let y = g .tidy in
+    holds (set cells 1 n) (withNext n (decode cells))
+    (record {
+      few = y .few;
+      values = y .values;
+      different = y .different;
+      full = y .full;
+      words = y .words;
+      low = b;
+    })
+    (ap (λ (l : List ℕ). set l 1 n) (g .encoded))
+
+-- 0, 1 and 2 are the marks' cells
+mark-cell : (k : ℕ) → k ≤ 2 → k ≡ markCell (markOf k)
+unfolding markOf
+mark-cell k h = go (eqb k 0) (eqb k 1) refl refl
+  where
+    go : (z o : Bool) → eqb k 0 ≡ z → eqb k 1 ≡ o → k ≡ markCell (cond z unmarked (cond o broken frozen))
+    go true o p q = eqb-true k 0 p
+    go false true p q = eqb-true k 1 q
+    go false false p q =
+        let m : k ≢ 0 = eqb-false k 0 p in
+        let n : k ≢ 1 = eqb-false k 1 q in
+        omega arith
+
+pub mark-set : (cells : List ℕ) (k : ℕ) → Good cells → k ≤ 2 → Holds (set cells 2 k) (marked (markOf k) (decode cells))
+unfolding encode
+mark-set cells k g b =
+    let y = g .tidy in
+    holds (set cells 2 k) (marked (markOf k) (decode cells))
+    (record {
+      few = y .few;
+      values = y .values;
+      different = y .different;
+      full = y .full;
+      words = y .words;
+      low = y .low;
+    })
+    (ap (λ (l : List ℕ). set l 2 k) (g .encoded)
+    ∙ ap (λ (j : ℕ). set (encode (decode cells)) 2 j) (mark-cell k b))
+
+pub mark-is : (cells : List ℕ) → Good cells → getD cells 2 0 ≡ markCell (decode cells .mark)
+unfolding encode
+mark-is cells g = ap (λ (l : List ℕ). getD l 2 0) (g .encoded)
+
+pub shut-is : (m : Mark) (k : ℕ) → k ≡ markCell m → shutBy m ≡ cond (eqb k 0) 0 (cond (eqb k 1) 3 4)
+unfolding shutBy
+shut-is unmarked k e = rw e
+shut-is broken k e = rw e
+shut-is frozen k e = rw e

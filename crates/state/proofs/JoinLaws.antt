@@ -1,0 +1,156 @@
+-- Tables of symbols, without cells: where a name stands, and how a symbol joins.
+use Prim.Native.Nat.{ℕ, zero, suc, _+_, _^_, _≤_, _<_, max}
+use mathlib.Core.Bool.{Bool, true, false, cond, not, _&&_, _||_}
+use mathlib.Core.List.{List, [], _∷_}
+use mathlib.Core.Logic.{_≢_}
+use mathlib.Core.Path.{_≡_, refl, sym, ap, _∙_}
+use native.Mathlib.Nat.{not-suc-le-zero, le-of-suc-le-suc}
+use native.Mathlib.Numerals.{add-one}
+use native.Mathlib.Omega.{arith}
+use borrow.Author.Tests.{ltb-true, lt-ltb, eqb-true, eqb-false, eq-eqb, ne-eqb, not-true}
+use lib.ListN.{length, getD}
+use lib.Dec.{eqb, leb, ltb}
+use Rattle.rules.specs.Text.{all, any}
+use Rattle.rules.specs.State.{Symbol, symbol, nameIs, isSymbol, placeOf, differentNames, Word, unplaced, plain, refers, soundWord, State}
+use Rattle.rules.specs.Placing.{define, mention}
+use Rattle.rules.specs.Calls.{withSymbols}
+use Rattle.state.specs.Good.{soundValue, Tidy}
+use Rattle.state.specs.Table.{noSymbol}
+use Rattle.state.proofs.BoolLaws.{both, first, second, neither, not-first, not-second, or-false}
+use Rattle.state.proofs.ListLaws.{put, length-put, all-weaken}
+
+-- ---- define and mention put a symbol at its name's place
+
+pub define-put : (x v : ℕ) (t : List Symbol) → define x v t ≡ put (placeOf x t) (symbol x v true) t
+unfolding define placeOf
+define-put x v [] = refl
+define-put x v (s ∷ t) = go (eqb (s .name) x) (define-put x v t)
+  where
+    go : (b : Bool) → define x v t ≡ put (placeOf x t) (symbol x v true) t → cond b (symbol x v true ∷ t) (s ∷ define x v t) ≡ put (cond b 0 (placeOf x t + 1)) (symbol x v true) (s ∷ t)
+    go true e = refl
+    go false e = rw (add-one (placeOf x t), e)
+
+pub mention-known : (x : ℕ) (t : List Symbol) → placeOf x t < length t → mention x t ≡ t
+unfolding mention placeOf
+mention-known x [] h = absurd (not-suc-le-zero h)
+mention-known x (s ∷ t) h = go (eqb (s .name) x) (mention-known x t) h
+  where
+    go : (b : Bool) → (placeOf x t < length t → mention x t ≡ t) → cond b 0 (placeOf x t + 1) < suc (length t) → cond b (s ∷ t) (s ∷ mention x t) ≡ s ∷ t
+    go true e h = refl
+    go false e h = ap (λ (r : List Symbol). s ∷ r) (e (omega arith))
+
+pub mention-new : (x : ℕ) (t : List Symbol) → length t ≤ placeOf x t → mention x t ≡ put (placeOf x t) (symbol x 0 false) t
+unfolding mention placeOf
+mention-new x [] h = refl
+mention-new x (s ∷ t) h = go (eqb (s .name) x) (mention-new x t) h
+  where
+    go : (b : Bool) → (length t ≤ placeOf x t → mention x t ≡ put (placeOf x t) (symbol x 0 false) t) → suc (length t) ≤ cond b 0 (placeOf x t + 1) → cond b (s ∷ t) (s ∷ mention x t) ≡ put (cond b 0 (placeOf x t + 1)) (symbol x 0 false) (s ∷ t)
+    go true e h = absurd (not-suc-le-zero h)
+    go false e h = rw (add-one (placeOf x t), e (omega arith))
+
+pub place-most : (x : ℕ) (t : List Symbol) → placeOf x t ≤ length t
+unfolding placeOf
+place-most x [] = omega arith
+place-most x (s ∷ t) = go (eqb (s .name) x) (place-most x t)
+  where
+    go : (b : Bool) → placeOf x t ≤ length t → cond b 0 (placeOf x t + 1) ≤ suc (length t)
+    go true e = omega arith
+    go false e = omega arith
+
+-- ---- a tidy table stays tidy
+
+module _ (x v : ℕ) (d : Bool) where
+  abbrev new : Symbol
+  new = symbol x v d
+
+  all-put : (p : Symbol → Bool) (i : ℕ) (t : List Symbol) → p new ≡ true → all p t ≡ true → all p (put i new t) ≡ true
+  unfolding all
+  all-put p zero [] n e = both (p new) true n refl
+  all-put p (suc i) [] n e = both (p new) true n refl
+  all-put p zero (s ∷ t) n e = both (p new) (all p t) n (second (p s) (all p t) e)
+  all-put p (suc i) (s ∷ t) n e = both (p s) (all p (put i new t)) (first (p s) (all p t) e) (all-put p i t n (second (p s) (all p t) e))
+
+  -- no other name comes in
+  put-other : (y : ℕ) (t : List Symbol) → x ≢ y → isSymbol y t ≡ false → isSymbol y (put (placeOf x t) new t) ≡ false
+  unfolding isSymbol any placeOf
+  put-other y [] n e = rw (ne-eqb x y n)
+  put-other y (s ∷ t) n e = go (eqb (s .name) x) (put-other y t n) e
+    where
+      go : (b : Bool) → (any (nameIs y) t ≡ false → any (nameIs y) (put (placeOf x t) new t) ≡ false) → nameIs y s || any (nameIs y) t ≡ false → any (nameIs y) (put (cond b 0 (placeOf x t + 1)) new (s ∷ t)) ≡ false
+      go true f e = neither (eqb x y) (any (nameIs y) t) (ne-eqb x y n) (not-second (nameIs y s) (any (nameIs y) t) e)
+      go false f e =
+          rw (add-one (placeOf x t))
+          (neither (nameIs y s) (any (nameIs y) (put (placeOf x t) new t))
+          (not-first (nameIs y s) (any (nameIs y) t) e)
+          (f (not-second (nameIs y s) (any (nameIs y) t) e)))
+
+  put-different : (t : List Symbol) → differentNames t ≡ true → differentNames (put (placeOf x t) new t) ≡ true
+  unfolding differentNames placeOf isSymbol any
+  put-different [] e = refl
+  put-different (s ∷ t) e = go (eqb (s .name) x) refl (put-different t (second (not (isSymbol (s .name) t)) (differentNames t) e))
+    where
+      go : (b : Bool) → eqb (s .name) x ≡ b → differentNames (put (placeOf x t) new t) ≡ true → differentNames (put (cond b 0 (placeOf x t + 1)) new (s ∷ t)) ≡ true
+      go true q f = ap (λ (y : ℕ). not (isSymbol y t) && differentNames t) (sym (eqb-true (s .name) x q)) ∙ e
+      go false q f =
+          rw (add-one (placeOf x t))
+          (both (not (isSymbol (s .name) (put (placeOf x t) new t))) (differentNames (put (placeOf x t) new t))
+          (ap not
+          (put-other (s .name) t (λ z. eqb-false (s .name) x q (sym z))
+          (not-true (isSymbol (s .name) t) (first (not (isSymbol (s .name) t)) (differentNames t) e))))
+          f)
+
+more-symbols : (n m : ℕ) → n ≤ m → (w : Word) → soundWord n w ≡ true → soundWord m w ≡ true
+unfolding soundWord
+more-symbols n m h unplaced e = refl
+more-symbols n m h (plain x) e = e
+more-symbols n m h (refers x i) e =
+    let l : i < n = ltb-true i n (second (ltb x (2 ^ 64)) (ltb i n) e) in
+    both (ltb x (2 ^ 64)) (ltb i m) (first (ltb x (2 ^ 64)) (ltb i n) e) (lt-ltb i m (omega arith))
+
+-- a symbol at its name's place: the state is as tidy as before
+pub put-tidy : (s : State) → Tidy s → (x v : ℕ) (d : Bool) → soundValue (symbol x v d) ≡ true → placeOf x (s .symbols) < 256 → Tidy (withSymbols (put (placeOf x (s .symbols)) (symbol x v d) (s .symbols)) s)
+put-tidy s y x v d e h =
+    let t = s .symbols in
+    let long : length (put (placeOf x t) (symbol x v d) t) ≡ max (length t) (placeOf x t + 1) = length-put (placeOf x t) (symbol x v d) t (place-most x t) in
+    record {
+      few = omega (arith, y .few);
+      values = all-put x v d soundValue (placeOf x t) t e (y .values);
+      different = put-different x v d t (y .different);
+      full = y .full;
+      words = all-weaken (soundWord (length t)) (soundWord (length (put (placeOf x t) (symbol x v d) t))) (more-symbols (length t) (length (put (placeOf x t) (symbol x v d) t)) (omega arith)) (s .words) (y .words);
+      low = y .low;
+    }
+
+-- ---- a name in a table of different names stands once
+
+module _ (x : ℕ) (q : Symbol → Bool) where
+  not-there : (t : List Symbol) → isSymbol x t ≡ false → any (λ s. nameIs x s && q s) t ≡ false
+  unfolding any isSymbol
+  not-there [] e = refl
+  not-there (s ∷ t) e =
+      neither (nameIs x s && q s) (any (λ s. nameIs x s && q s) t)
+      (ap (λ (b : Bool). b && q s) (not-first (nameIs x s) (any (nameIs x) t) e))
+      (not-there t (not-second (nameIs x s) (any (nameIs x) t) e))
+
+  pub at-place : (t : List Symbol) → differentNames t ≡ true → placeOf x t < length t → any (λ s. nameIs x s && q s) t ≡ q (getD t (placeOf x t) noSymbol)
+  unfolding any placeOf differentNames
+  at-place [] e h = absurd (not-suc-le-zero h)
+  at-place (s ∷ t) e h = go (eqb (s .name) x) refl (at-place t (second (not (isSymbol (s .name) t)) (differentNames t) e)) h
+    where
+      go : (b : Bool) → eqb (s .name) x ≡ b → (placeOf x t < length t → any (λ s. nameIs x s && q s) t ≡ q (getD t (placeOf x t) noSymbol)) → cond b 0 (placeOf x t + 1) < suc (length t) → (b && q s) || any (λ s. nameIs x s && q s) t ≡ q (getD (s ∷ t) (cond b 0 (placeOf x t + 1)) noSymbol)
+      go true p f h =
+          ap (λ (b : Bool). q s || b)
+          (not-there t
+          (ap (λ (y : ℕ). isSymbol y t) (sym (eqb-true (s .name) x p))
+          ∙ not-true (isSymbol (s .name) t) (first (not (isSymbol (s .name) t)) (differentNames t) e)))
+          ∙ or-false (q s)
+      go false p f h = rw (add-one (placeOf x t)) (f (omega arith))
+
+  pub at-no-place : (t : List Symbol) → length t ≤ placeOf x t → any (λ s. nameIs x s && q s) t ≡ false
+  unfolding any placeOf
+  at-no-place [] h = refl
+  at-no-place (s ∷ t) h = go (eqb (s .name) x) (at-no-place t) h
+    where
+      go : (b : Bool) → (length t ≤ placeOf x t → any (λ s. nameIs x s && q s) t ≡ false) → suc (length t) ≤ cond b 0 (placeOf x t + 1) → (b && q s) || any (λ s. nameIs x s && q s) t ≡ false
+      go true f h = absurd (not-suc-le-zero h)
+      go false f h = f (omega arith)

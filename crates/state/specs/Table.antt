@@ -1,0 +1,36 @@
+-- How the functions on the table of symbols say what they did.
+use Prim.Native.Nat.{ℕ, _+_, _-_, _≤_}
+use mathlib.Core.Bool.{Bool, true, false, cond, not, _&&_}
+use mathlib.Core.List.{List, [], _∷_}
+use mathlib.Core.Path.{_≡_}
+use lib.ListN.{length}
+use lib.Dec.{eqb, leb}
+use Rattle.rules.specs.State.{Symbol, symbol, State, placeOf}
+use Rattle.rules.specs.Calls.{withSymbols, bit}
+use Rattle.state.specs.Good.{Holds}
+use Rattle.state.specs.declared.table.Listed.{Listed}
+
+-- a name's place in the table, its length where there is none
+pub record Place (x : ℕ) (t : List Symbol) (r : ℕ) : Type 0 where
+  pub most : r ≤ length t
+  pub is : r ≡ placeOf x t
+
+-- the table t takes the place of the state's, if it has room for it; the answer says whether it had
+pub record Joined (t : List Symbol) (s : State) (r : Bool) (after : List ℕ) : Type 0 where
+  pub room : r ≡ leb (length t) 256
+  pub holds : Holds after (cond (leb (length t) 256) (withSymbols t s) s)
+
+-- a symbol as SYMBOLS and UNDEFINED tell it
+abbrev pub listed : Symbol → Listed
+listed s = record { name = s .name; value = s .value; defined = bit (s .defined) }
+
+-- no symbol
+abbrev pub noSymbol : Symbol
+noSymbol = symbol 0 0 false
+
+-- the place in the table of the k-th undefined symbol, the table's length where there is none
+unfoldable pub undefinedPlace : ℕ → List Symbol → ℕ
+undefinedPlace k [] = 0
+undefinedPlace k (s ∷ t) =
+    let rest = undefinedPlace (k - bit (not (s .defined))) t in
+    cond (not (s .defined) && eqb k 0) 0 (rest + 1)

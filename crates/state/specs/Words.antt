@@ -1,0 +1,11 @@
+-- How the functions on program words say what they found.
+use Prim.Native.Nat.{ℕ, _+_, _<_}
+use mathlib.Core.Path.{_≡_}
+use lib.ListN.{length, getD}
+use Rattle.rules.specs.State.{State, unplaced}
+use Rattle.state.specs.Layout.{tagCell}
+
+-- a word's tag; what it refers to is a symbol of the table
+pub record Tagged (s : State) (address r : ℕ) : Type 0 where
+  pub is : r ≡ tagCell (getD (s .words) address unplaced)
+  pub inside : r < 2 + length (s .symbols)

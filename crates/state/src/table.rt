@@ -1,0 +1,150 @@
+// The table of symbols.
+ghost use Prim.Native.Nat.{_<_};
+ghost use mathlib.Core.Path.{_≡_};
+ghost use lib.ListN.{length, getD};
+ghost use Rattle.rules.specs.State.{isDefined, isUndefined, undefinedOnly};
+ghost use Rattle.rules.specs.Placing.{define as defined-in, mention as mentioned-in};
+ghost use Rattle.state.specs.Layout.{decode};
+ghost use Rattle.state.specs.Good.{Good};
+ghost use Rattle.state.specs.Table.{Place, Joined, listed, noSymbol, undefinedPlace};
+
+// A symbol's place, the count of symbols where there is none.
+pub fn find(state: &[u64], name: u64) -> usize
+    requires { ⌜ Good (now state) ⌝ }
+    ensures { λ r. ⌜ Place name (decode (now (state .entry)) .symbols) r ⌝ }
+{
+    let n = state[0] as usize;
+    let mut i = 0;
+    while i < n {
+        if state[4 + i] == name {
+            return i;
+        }
+        i += 1;
+    }
+    n
+}
+
+pub fn is_defined(state: &[u64], name: u64) -> bool
+    requires { ⌜ Good (now state) ⌝ }
+    ensures { λ r. ⌜ r ≡ isDefined name (decode (now (state .entry)) .symbols) ⌝ }
+{
+    let i = find(state, name);
+    let n = state[0] as usize;
+    if i < n {
+        return state[260 + i] != 0;
+    }
+    false
+}
+
+pub fn is_undefined(state: &[u64], name: u64) -> bool
+    requires { ⌜ Good (now state) ⌝ }
+    ensures { λ r. ⌜ r ≡ isUndefined name (decode (now (state .entry)) .symbols) ⌝ }
+{
+    let i = find(state, name);
+    let n = state[0] as usize;
+    if i < n {
+        return state[260 + i] == 0;
+    }
+    false
+}
+
+// An entry gives its symbol a value. Nothing changes, and the answer is false, where the symbol is new and the table full.
+pub fn define(state: &mut [u64], name: u64, value: u16) -> bool
+    requires { ⌜ Good (now state) ⌝ }
+    ensures { λ r. ⌜ Joined (defined-in name value (decode (now (state .entry)) .symbols)) (decode (now (state .entry))) r (now (state .exit)) ⌝ }
+{
+    let i = find(state, name);
+    let n = state[0] as usize;
+    if i == 256 {
+        return false;
+    }
+    state[4 + i] = name;
+    state[260 + i] = value as u64 + 65536;
+    if i < n {
+        return true;
+    }
+    state[0] = i as u64 + 1;
+    true
+}
+
+// An external joins the table undefined, if it is new. Nothing changes, and the answer is false, where the table is full.
+pub fn mention(state: &mut [u64], name: u64) -> bool
+    requires { ⌜ Good (now state) ⌝ }
+    ensures { λ r. ⌜ Joined (mentioned-in name (decode (now (state .entry)) .symbols)) (decode (now (state .entry))) r (now (state .exit)) ⌝ }
+{
+    let i = find(state, name);
+    let n = state[0] as usize;
+    if i < n {
+        return true;
+    }
+    if i == 256 {
+        return false;
+    }
+    state[4 + i] = name;
+    state[0] = i as u64 + 1;
+    true
+}
+
+// A symbol as the listings tell it.
+pub struct Listed {
+    pub name: u64,
+    pub value: u64,
+    pub defined: u64,
+}
+
+pub fn symbol_at(state: &[u64], i: usize) -> Listed
+    requires { ⌜ Good (now state) ⌝ }
+    requires { ⌜ i < length (decode (now state) .symbols) ⌝ }
+    ensures { λ r. ⌜ r ≡ listed (getD (decode (now (state .entry)) .symbols) i noSymbol) ⌝ }
+{
+    let name = state[4 + i];
+    let v = state[260 + i];
+    if v == 0 {
+        return Listed {
+            name,
+            value: 0,
+            defined: 0,
+        };
+    }
+    Listed {
+        name,
+        value: v - 65536,
+        defined: 1,
+    }
+}
+
+pub fn undefined_count(state: &[u64]) -> usize
+    requires { ⌜ Good (now state) ⌝ }
+    ensures { λ r. ⌜ r ≡ length (undefinedOnly (decode (now (state .entry)) .symbols)) ⌝ }
+{
+    let n = state[0] as usize;
+    let mut found = 0;
+    let mut i = 0;
+    while i < n {
+        if state[260 + i] == 0 {
+            found += 1;
+        }
+        i += 1;
+    }
+    found
+}
+
+// The place of the k-th undefined symbol, from 0; the count of symbols where there is none.
+pub fn undefined_place(state: &[u64], k: u64) -> usize
+    requires { ⌜ Good (now state) ⌝ }
+    ensures { λ r. ⌜ r ≡ undefinedPlace k (decode (now (state .entry)) .symbols) ⌝ }
+{
+    let n = state[0] as usize;
+    let mut more = k;
+    let mut i = 0;
+    while i < n {
+        if state[260 + i] == 0 {
+            if more == 0 {
+                return i;
+            }
+            more -= 1;
+        }
+        i += 1;
+    }
+    n
+}
