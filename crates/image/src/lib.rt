@@ -1,0 +1,89 @@
+// END's output: a record for each placed word, then the end record.
+use state::header::next_address;
+use state::table::{symbol_at, undefined_count};
+use state::words::{tag, text};
+ghost use mathlib.Core.Path.{_≡_};
+ghost use Prim.Native.Nat.{_+_, _≤_, _<_};
+ghost use lib.ListN.{length, getD};
+ghost use Rattle.rules.specs.State.{high as high-in, placedWords, unplaced};
+ghost use Rattle.rules.specs.Image.{two, wordRecord, endRecord, valueOf, completed, imageOf};
+ghost use Rattle.rules.specs.Calls.{overwritten};
+ghost use Rattle.state.specs.Layout.{decode};
+ghost use Rattle.state.specs.Good.{Good};
+ghost use Rattle.image.specs.Output.{overlay, endBytes, recordAt, Written, PlacedTag};
+
+// A word's record: its kind, its address and its four quarters, the high bytes first.
+fn put_word(out: &mut [u8], at: usize, address: u64, word: u64)
+    requires { ⌜ at + 11 ≤ length (now out) ⌝ }
+    ensures { λ r. ⌜ now (out .exit) ≡ overlay at (wordRecord address word) (now (out .entry)) ⌝ }
+{
+    out[at] = 0x57;
+    out[at + 1] = (address / 256 % 256) as u8;
+    out[at + 2] = (address % 256) as u8;
+    out[at + 3] = (word / 72_057_594_037_927_936 % 256) as u8;
+    out[at + 4] = (word / 281_474_976_710_656 % 256) as u8;
+    out[at + 5] = (word / 1_099_511_627_776 % 256) as u8;
+    out[at + 6] = (word / 4_294_967_296 % 256) as u8;
+    out[at + 7] = (word / 16_777_216 % 256) as u8;
+    out[at + 8] = (word / 65536 % 256) as u8;
+    out[at + 9] = (word / 256 % 256) as u8;
+    out[at + 10] = (word % 256) as u8;
+}
+
+// The end record: its kind, HIGH and the number of undefined symbols.
+fn put_end(out: &mut [u8], at: usize, high: u64, undefined: u64)
+    requires { ⌜ at + 5 ≤ length (now out) ⌝ }
+    ensures { λ r. ⌜ now (out .exit) ≡ overlay at (endBytes high undefined) (now (out .entry)) ⌝ }
+{
+    out[at] = 0x45;
+    out[at + 1] = (high / 256 % 256) as u8;
+    out[at + 2] = (high % 256) as u8;
+    out[at + 3] = (undefined / 256 % 256) as u8;
+    out[at + 4] = (undefined % 256) as u8;
+}
+
+// A symbol's value, 0 if it is undefined.
+fn value_of(state: &[u64], symbol: usize) -> u16
+    requires { ⌜ Good (now state) ⌝ }
+    requires { ⌜ symbol < length (decode (now state) .symbols) ⌝ }
+    ensures { λ r. ⌜ r ≡ valueOf (decode (now (state .entry)) .symbols) symbol ⌝ }
+{
+    let s = symbol_at(state, symbol);
+    (s.value % 65536) as u16
+}
+
+// The text with a value added to its fourth quarter, modulo 65,536.
+fn complete(text: u64, value: u16) -> u64
+    ensures { λ r. ⌜ r ≡ completed text value ⌝ }
+{
+    let fourth = (text % 65536) as u16;
+    text / 65536 * 65536 + std::num::wrapping_add_u16(fourth, value) as u64
+}
+
+// A placed word as the image has it, from its tag.
+fn linked_word(state: &[u64], address: usize, tag: u64) -> u64
+    requires { ⌜ Good (now state) ⌝ }
+    requires { ⌜ (address < 4096) × PlacedTag (decode (now state)) address tag ⌝ }
+    ensures { λ r. ⌜ recordAt (decode (now (state .entry))) address ≡ wordRecord address r ⌝ }
+{
+    let t = text(state, address);
+    if tag == 1 {
+        return t;
+    }
+    complete(t, value_of(state, (tag - 2) as usize))
+}
+
+// The record of an address, if a word is placed there; the answer is the place behind it.
+fn put_record(state: &[u64], address: usize, out: &mut [u8], at: usize) -> usize
+    requires { ⌜ Good (now state) ⌝ }
+    requires { ⌜ (address < 4096) × (at + length (recordAt (decode (now state)) address) ≤ length (now out)) ⌝ }
+    ensures { λ r. ⌜ Written at (recordAt (decode (now (state .entry))) address) (now (out .entry)) (now (out .exit)) r ⌝ }
+{
+    let t = tag(state, address);
+    if t == 0 {
+        return at;
+    }
+    let word = linked_word(state, address, t);
+    put_word(out, at, address as u64, word);
+    at + 11
+}
