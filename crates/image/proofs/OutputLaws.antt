@@ -41,10 +41,10 @@ unfolding overlay
 overlay-append at xs ys out h =
     let mid = overlay at xs out in
     let behind : drop (at + length xs + length ys) mid ≡ drop (at + length (xs ++ ys)) out =
-            sym (drop-drop (length ys) (at + length xs) mid)
-            ∙ ap (drop (length ys)) (overlay-drop at xs out h)
-            ∙ drop-drop (length ys) (at + length xs) out
-            ∙ ap (λ n. drop n out) (add-assoc at (length xs) (length ys) ∙ ap (λ n. at + n) (sym (length-append xs ys))) in
+    sym (drop-drop (length ys) (at + length xs) mid)
+    ∙ ap (drop (length ys)) (overlay-drop at xs out h)
+    ∙ drop-drop (length ys) (at + length xs) out
+    ∙ ap (λ n. drop n out) (add-assoc at (length xs) (length ys) ∙ ap (λ n. at + n) (sym (length-append xs ys))) in
     ap₂ {A = List ℕ} {B = List ℕ} (λ a b. a ++ (ys ++ b)) (overlay-take at xs out h) behind
     ∙ append-assoc (take at out) xs (ys ++ drop (at + length (xs ++ ys)) out)
     ∙ ap (λ l. take at out ++ l) (sym (append-assoc xs ys (drop (at + length (xs ++ ys)) out)))
@@ -74,9 +74,9 @@ puts-behind at (v ∷ vs) xs out k e h =
     let one = overlay at (xs ++ (v ∷ [])) out in
     let there : at + k < length (overlay at xs out) = omega (arith, overlay-length at xs out (omega arith)) in
     let stored : set (overlay at xs out) (at + k) v ≡ one =
-            overlay-set (at + k) v (overlay at xs out) there
-            ∙ ap (λ n. overlay (at + n) (v ∷ []) (overlay at xs out)) e
-            ∙ overlay-append at xs (v ∷ []) out (omega arith) in
+    overlay-set (at + k) v (overlay at xs out) there
+    ∙ ap (λ n. overlay (at + n) (v ∷ []) (overlay at xs out)) e
+    ∙ overlay-append at xs (v ∷ []) out (omega arith) in
     ap (λ l. puts l at (k + 1) vs) stored
     ∙ puts-behind at vs (xs ++ (v ∷ [])) out (k + 1) (omega (arith, length-append xs (v ∷ []))) (omega (arith, length-append xs (v ∷ [])))
     ∙ ap (λ l. overlay at l out) (append-assoc xs (v ∷ []) vs)

@@ -4,7 +4,7 @@ use mathlib.Core.List.{List, _∷_, _++_}
 use mathlib.Core.Logic.{_≢_}
 use mathlib.Core.Path.{_≡_}
 use lib.ListN.{length, take, drop}
-use Rattle.rules.specs.Image.{two, recordOf}
+use Rattle.rules.specs.Image.{two, recordOf, recordsFrom}
 use Rattle.rules.specs.State.{State, unplaced}
 use lib.ListN.{getD}
 use Rattle.state.specs.Words.{Tagged}
@@ -20,6 +20,10 @@ endBytes high undefined = 0x45 ∷ two high ++ two undefined
 -- the record of the word at an address, nothing where none is placed
 abbrev pub recordAt : State → ℕ → List ℕ
 recordAt s a = recordOf (s .symbols) a (getD (s .words) a unplaced)
+
+-- the records of all placed words
+abbrev pub wordsOf : State → List ℕ
+wordsOf s = recordsFrom (s .symbols) 0 (s .words)
 
 -- bytes were written at a place, and r is the place behind them
 pub record Written (at : ℕ) (bytes before after : List ℕ) (r : ℕ) : Type 0 where

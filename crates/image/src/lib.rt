@@ -1,16 +1,17 @@
 // END's output: a record for each placed word, then the end record.
 use state::header::next_address;
-use state::table::{symbol_at, undefined_count};
-use state::words::{tag, text};
+use state::table::symbol_at;
+use state::table::undefined_count;
+use state::words::tag;
+use state::words::text;
 ghost use mathlib.Core.Path.{_≡_};
 ghost use Prim.Native.Nat.{_+_, _≤_, _<_};
 ghost use lib.ListN.{length, getD};
 ghost use Rattle.rules.specs.State.{high as high-in, placedWords, unplaced};
 ghost use Rattle.rules.specs.Image.{two, wordRecord, endRecord, valueOf, completed, imageOf};
-ghost use Rattle.rules.specs.Calls.{overwritten};
 ghost use Rattle.state.specs.Layout.{decode};
 ghost use Rattle.state.specs.Good.{Good};
-ghost use Rattle.image.specs.Output.{overlay, endBytes, recordAt, Written, PlacedTag};
+ghost use Rattle.image.specs.Output.{overlay, endBytes, recordAt, wordsOf, Written, PlacedTag};
 
 // A word's record: its kind, its address and its four quarters, the high bytes first.
 fn put_word(out: &mut [u8], at: usize, address: u64, word: u64)
@@ -86,4 +87,59 @@ fn put_record(state: &[u64], address: usize, out: &mut [u8], at: usize) -> usize
     let word = linked_word(state, address, t);
     put_word(out, at, address as u64, word);
     at + 11
+}
+
+// The records of all placed words, addresses rising; the answer is their length.
+fn write_words(state: &[u64], out: &mut [u8]) -> usize
+    requires { ⌜ Good (now state) ⌝ }
+    requires { ⌜ length (wordsOf (decode (now state))) ≤ length (now out) ⌝ }
+    ensures { λ r. ⌜ Written 0 (wordsOf (decode (now (state .entry)))) (now (out .entry)) (now (out .exit)) r ⌝ }
+{
+    let mut at = 0;
+    let mut a = 0;
+    while a < 4096 {
+        at = put_record(state, a, out, at);
+        a += 1;
+    }
+    at
+}
+
+// How many bytes the image has.
+pub fn image_length(state: &[u64]) -> usize
+    requires { ⌜ Good (now state) ⌝ }
+    ensures { λ r. ⌜ r ≡ length (imageOf (decode (now (state .entry)))) ⌝ }
+{
+    let mut n = 5;
+    let mut a = 0;
+    while a < 4096 {
+        if tag(state, a) != 0 {
+            n += 11;
+        }
+        a += 1;
+    }
+    n
+}
+
+// HIGH: the next address less one, 65,535 when that address is 0.
+pub fn high(state: &[u64]) -> u64
+    requires { ⌜ Good (now state) ⌝ }
+    ensures { λ r. ⌜ r ≡ high-in (decode (now (state .entry))) ⌝ }
+{
+    let next = next_address(state);
+    if next == 0 {
+        return 65535;
+    }
+    (next - 1) as u64
+}
+
+// The image, at the front of the output; all bytes past it stay. The answer is its length.
+pub fn write_image(state: &[u64], out: &mut [u8]) -> usize
+    requires { ⌜ Good (now state) ⌝ }
+    requires { ⌜ length (imageOf (decode (now state))) ≤ length (now out) ⌝ }
+    ensures { λ r. ⌜ Written 0 (imageOf (decode (now (state .entry)))) (now (out .entry)) (now (out .exit)) r ⌝ }
+{
+    let n = write_words(state, out);
+    let undefined = undefined_count(state);
+    put_end(out, n, high(state), undefined as u64);
+    n + 5
 }
