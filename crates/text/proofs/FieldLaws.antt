@@ -74,7 +74,9 @@ starts c b (x ∷ xs) e = go (eqb x space) refl (λ f. starts (c + 1) x xs f)
         rw (width-more c b (x ∷ xs) e)
         (fields-more c b (x ∷ xs) e (ap not f)
         ∙ ap (widenField c b) (ih f)
-        ∙ ap (λ (n : ℕ). field c (b ∷ take (width (x ∷ xs)) (x ∷ xs)) ∷ fieldsFrom n (drop (width (x ∷ xs)) (x ∷ xs))) (k (width (x ∷ xs))))
+        ∙ ap
+        (λ (n : ℕ). field c (b ∷ take (width (x ∷ xs)) (x ∷ xs)) ∷ fieldsFrom n (drop (width (x ∷ xs)) (x ∷ xs)))
+        (k (width (x ∷ xs))))
 
 -- the fields of a text whose first byte, if any, is no space
 after : ℕ → List ℕ → List Field
@@ -86,12 +88,16 @@ unfolding after fieldsFrom first run
 after-gap c [] = refl
 after-gap c (b ∷ rest) = go (eqb b space) refl (after-gap (c + 1) rest)
   where
-    go : (t : Bool) → eqb b space ≡ t → fieldsFrom (c + 1) rest ≡ after (c + 1 + gap rest) (drop (gap rest) rest) → fieldsFrom c (b ∷ rest) ≡ after (c + gap (b ∷ rest)) (drop (gap (b ∷ rest)) (b ∷ rest))
+    go :
+        (t : Bool) → eqb b space ≡ t
+        → fieldsFrom (c + 1) rest ≡ after (c + 1 + gap rest) (drop (gap rest) rest)
+        → fieldsFrom c (b ∷ rest) ≡ after (c + gap (b ∷ rest)) (drop (gap (b ∷ rest)) (b ∷ rest))
     go true e ih =
         let k : c + 1 + gap rest ≡ c + suc (gap rest) = omega arith in
         rw (run-yes isSpace b rest e) (fields-space c b rest e ∙ ih ∙ ap (λ (n : ℕ). after n (drop (gap rest) rest)) k)
     go false e ih =
-        rw (run-no isSpace b rest e, add-zero) (starts c b rest e ∙ sym (first-some _ _ (rw (width-more c b rest e) (omega arith))))
+        rw (run-no isSpace b rest e, add-zero)
+        (starts c b rest e ∙ sym (first-some _ _ (rw (width-more c b rest e) (omega arith))))
 
 -- ---- the same by positions
 
@@ -152,7 +158,8 @@ pub lends-field : (at stop start end : ℕ) (file r : RefT (List ℕ)) → InFil
 unfolding fieldStop
 lends-field at stop start end file r i s e b p =
     let n : end ≡ fieldStop at stop (now file) = e ∙ ap (λ (k : ℕ). past (isNot space) k stop (now file)) s in
-    let t : now r ≡ part (fieldStart at stop (now file)) (fieldStop at stop (now file)) (now file) = b ∙ ap₂ (λ (f g : ℕ). part f g (now file)) s n in
+    let t : now r ≡ part (fieldStart at stop (now file)) (fieldStop at stop (now file)) (now file) =
+    b ∙ ap₂ (λ (f g : ℕ). part f g (now file)) s n in
     record {
       bytes = t;
       place = p ∙ ap (λ (k : ℕ). onward k (ptr file)) s;
@@ -169,13 +176,14 @@ no-gap (b ∷ rest) e h = go (eqb b space) refl
     go true f = absurd (omega (arith, run-yes isSpace b rest f))
     go false f = omega (arith, width-more 0 b rest f)
 
--- a field of that text was found: the others stand behind it
+-- a field with the text t was found at s, and the others stand behind it. Columns count from the line's start, `at`
 pub record FieldFound (i stop s : ℕ) (l t : List ℕ) : Type 0 where
+  pub ahead : i ≤ s
   pub some : 0 < length t
   pub fits : s + length t ≤ stop
-  pub fields : (c : ℕ)
-      → fieldsFrom c (part i stop l)
-      ≡ field (c + (s - i)) t ∷ fieldsFrom (c + (s + length t - i)) (part (s + length t) stop l)
+  pub fields : (at : ℕ) → at ≤ i
+      → fieldsFrom (i - at + 1) (part i stop l)
+      ≡ field (s - at + 1) t ∷ fieldsFrom (s + length t - at + 1) (part (s + length t) stop l)
 
 module _ (i stop s : ℕ) (l : List ℕ) (h : InFile i stop l) (e : s ≡ fieldStart i stop l) where
   -- where it starts with the line's end, there is none
@@ -206,19 +214,34 @@ module _ (i stop s : ℕ) (l : List ℕ) (h : InFile i stop l) (e : s ≡ fieldS
 
     size-is : s + length t ≡ fieldStop i stop l
     size-is =
-        omega
-        (arith, ap length text-is, length-part (fieldStart i stop l) (fieldStop i stop l) l (omega (arith, stop-most i stop l h, h .size)), stop-least i stop l h, e)
+        omega (
+          arith,
+          ap length text-is,
+          length-part (fieldStart i stop l) (fieldStop i stop l) l (omega (arith, stop-most i stop l h, h .size)),
+          stop-least i stop l h,
+          e,
+        )
 
     some : 0 < length t
     some =
-        omega
-        (arith, size-is, stop-same, rw start-same at (width-is s stop l here), no-gap (part s stop l) gap-zero (omega (arith, length-part s stop l (h .size))))
+        omega (
+          arith,
+          size-is,
+          stop-same,
+          rw start-same at (width-is s stop l here),
+          no-gap (part s stop l) gap-zero (omega (arith, length-part s stop l (h .size))),
+        )
 
     pub field-found : FieldFound i stop s l t
     field-found =
+        let ahead : i ≤ s = omega (arith, start-least i stop l h) in
         record {
+          ahead = ahead;
           some = some;
           fits = omega (arith, size-is, stop-most i stop l h);
-          fields =
-              λ c. next-field i stop l h c ∙ rw (← text-is, ← size-is, ← e) (first-some _ _ some);
+          fields = λ at before.
+              let column : i - at + 1 + (s - i) ≡ s - at + 1 = omega arith in
+              let behind : i - at + 1 + (s + length t - i) ≡ s + length t - at + 1 = omega arith in
+              next-field i stop l h (i - at + 1)
+              ∙ rw (← text-is, ← size-is, ← e, column, behind) (first-some _ _ some);
         }

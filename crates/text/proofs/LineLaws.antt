@@ -103,7 +103,9 @@ first-line b [] h = first-LF b [] (go (eqb b LF) refl)
     go false e = absurd (omega (arith, width-more b [] e))
 first-line b (x ∷ xs) h = go (eqb b LF) refl (eqb x LF) refl (λ k. first-line x xs k)
   where
-    go : (t : Bool) → eqb b LF ≡ t → (u : Bool) → eqb x LF ≡ u → (width (x ∷ xs) ≤ length xs → FirstLine (x ∷ xs)) → FirstLine (b ∷ x ∷ xs)
+    go :
+        (t : Bool) → eqb b LF ≡ t → (u : Bool) → eqb x LF ≡ u
+        → (width (x ∷ xs) ≤ length xs → FirstLine (x ∷ xs)) → FirstLine (b ∷ x ∷ xs)
     go true e u f ih = first-LF b (x ∷ xs) e
     go false e true f ih = first-CRLF b x xs e f (eqb b CR) refl
     go false e false f ih = first-more b x xs e f (ih (omega (arith, width-more b (x ∷ xs) e)))
@@ -163,7 +165,9 @@ module _ (at lf : ℕ) (file : List ℕ) (f : Found at (length file) (past (isNo
       }
 
   -- an LF, with the size of the line before it
-  stops-at : (stop : ℕ) → lf < length file → at + size (lf - at) (drop at file) ≡ stop → NextLine at file (record { stop = stop; next = lf + 1 })
+  stops-at :
+      (stop : ℕ) → lf < length file → at + size (lf - at) (drop at file) ≡ stop
+      → NextLine at file (record { stop = stop; next = lf + 1 })
   stops-at stop h e =
       let k : at + suc (lf - at) ≡ lf + 1 = omega (arith, f .least) in
       record {
@@ -214,11 +218,15 @@ legal-run (suc n) [] = refl
 legal-run (suc n) (b ∷ rest) = ap (λ (k : ℕ). cond (isLegal b) (suc k) 0) (legal-run n rest)
 
 module _ (at stop r : ℕ) (file : List ℕ) where
-  pub legal-cut : 80 < stop - at → Found at (at + 80) (legalEnd at (at + 80) file) r → r - at ≡ legalFront 80 (part at stop file)
+  pub legal-cut :
+      80 < stop - at → Found at (at + 80) (legalEnd at (at + 80) file) r
+      → r - at ≡ legalFront 80 (part at stop file)
   unfolding legalEnd past
   legal-cut h f = rw (legal-run 80 (part at stop file), take-part at stop 80 file (omega arith)) (omega (arith, f .is))
 
-  pub legal-whole : stop ≤ length file → stop - at ≤ 80 → Found at stop (legalEnd at stop file) r → r - at ≡ legalFront 80 (part at stop file)
+  pub legal-whole :
+      stop ≤ length file → stop - at ≤ 80 → Found at stop (legalEnd at stop file) r
+      → r - at ≡ legalFront 80 (part at stop file)
   unfolding legalEnd past
   legal-whole g h f =
       rw (legal-run 80 (part at stop file), take-all 80 (part at stop file) (omega (arith, length-part at stop file g)))

@@ -32,7 +32,9 @@ same-means [] [] h = refl
 same-means [] (y ∷ ys) h = absurd (false≢true h)
 same-means (x ∷ xs) [] h = absurd (false≢true h)
 same-means (x ∷ xs) (y ∷ ys) h =
-    ap₂ _∷_ (eqb-true x y (and-left (eqb x y) (sameText xs ys) h)) (same-means xs ys (and-right (eqb x y) (sameText xs ys) h))
+    ap₂ _∷_
+    (eqb-true x y (and-left (eqb x y) (sameText xs ys) h))
+    (same-means xs ys (and-right (eqb x y) (sameText xs ys) h))
 
 same-cons : (x y : ℕ) (xs ys : List ℕ) → sameText (x ∷ xs) (y ∷ ys) ≡ eqb x y && sameText xs ys
 unfolding sameText
@@ -61,7 +63,9 @@ pub compare-start : (a b : List ℕ) → length a ≡ length b → Compared a b 
 compare-start a b h = record { to = omega arith; size = h; same = refl }
 
 module _ {a b : List ℕ} {i : ℕ} (s : Compared a b i) where
-  here : i < length a → sameText (drop i a) (drop i b) ≡ eqb (getD a i 0) (getD b i 0) && sameText (drop (i + 1) a) (drop (i + 1) b)
+  here :
+      i < length a
+      → sameText (drop i a) (drop i b) ≡ eqb (getD a i 0) (getD b i 0) && sameText (drop (i + 1) a) (drop (i + 1) b)
   here h =
       let g : i < length b = omega (arith, s .size) in
       rw (drop-cons a i 0, drop-cons b i 0, add-one) (same-cons _ _ _ _)

@@ -4,11 +4,10 @@ use Prim.Native.Nat.{ℕ, _+_, _≤_, _<_}
 use native.Mathlib.Omega.{arith}
 use mathlib.Core.Bool.{true, false}
 use mathlib.Core.List.{List}
+use mathlib.Core.Option.{none, some}
 use mathlib.Core.Path.{_≡_, sym, _∙_}
 use lib.ListN.{length, drop, getD}
 use Rattle.rules.specs.Text.{between, all, isLetter, isLetterOrDigit, isName, packName, nameOf}
-use Rattle.text.specs.Answers.{asName}
-use Rattle.text.specs.declared.names.Name.the-variants.{Packed, NotAName}
 use Rattle.text.proofs.ScanLaws.{all-step, all-stop, all-end, between-yes, and-false, too-short, too-long}
 
 -- ---- one character
@@ -34,33 +33,34 @@ pub name-first : (f : List ℕ) → isLetter (getD f 0 0) ≡ false → isName f
 unfolding isName
 name-first f e = simp (e, and-false)
 
-pub no-name : (f : List ℕ) → isName f ≡ false → NotAName ≡ asName (nameOf f)
-unfolding nameOf asName
+pub no-name : (f : List ℕ) → isName f ≡ false → none ≡ nameOf f
+unfolding nameOf
 no-name f e = simp e
 
-pub a-name : (f : List ℕ) → isName f ≡ true → Packed (packName f) ≡ asName (nameOf f)
-unfolding nameOf asName
+pub a-name : (f : List ℕ) → isName f ≡ true → some (packName f) ≡ nameOf f
+unfolding nameOf
 a-name f e = simp e
 
 -- ---- the loop
 
 -- i characters are read: what is left decides
 pub record Characters (f : List ℕ) (i : ℕ) : Type 0 where
-  pub some : 0 < length f
+  pub any : 0 < length f
   pub few : length f ≤ 6
   pub to : i ≤ length f
   pub first : isLetter (getD f 0 0) ≡ true
   pub same : all isLetterOrDigit (drop i f) ≡ all isLetterOrDigit f
 
-pub characters-start : (f : List ℕ) → (length f ≡ 0 → ⊥) → length f ≤ 6 → isLetter (getD f 0 0) ≡ true → Characters f 1
+pub characters-start :
+    (f : List ℕ) → (length f ≡ 0 → ⊥) → length f ≤ 6 → isLetter (getD f 0 0) ≡ true → Characters f 1
 characters-start f h g e =
-    let some : 0 < length f = omega arith in
+    let any : 0 < length f = omega arith in
     record {
-      some = some;
+      any = any;
       few = g;
-      to = some;
+      to = any;
       first = e;
-      same = all-step isLetterOrDigit 0 f some (letter (getD f 0 0) e);
+      same = all-step isLetterOrDigit 0 f any (letter (getD f 0 0) e);
     }
 
 module _ {f : List ℕ} {i : ℕ} (s : Characters f i) where
@@ -71,7 +71,7 @@ module _ {f : List ℕ} {i : ℕ} (s : Characters f i) where
   pub characters-step : i < length f → isLetterOrDigit (getD f i 0) ≡ true → Characters f (i + 1)
   characters-step h b =
       record {
-        some = s .some;
+        any = s .any;
         few = s .few;
         to = omega arith;
         first = s .first;
@@ -81,4 +81,4 @@ module _ {f : List ℕ} {i : ℕ} (s : Characters f i) where
   pub characters-end : length f ≤ i → isName f ≡ true
   unfolding isName
   characters-end h =
-      simp (between-yes 1 6 (length f) (s .some) (s .few), s .first, sym (s .same) ∙ all-end isLetterOrDigit i f h)
+      simp (between-yes 1 6 (length f) (s .any) (s .few), s .first, sym (s .same) ∙ all-end isLetterOrDigit i f h)

@@ -6,26 +6,25 @@ use native.Mathlib.Omega.{arith}
 use native.Mathlib.Numerals.{add-one}
 use mathlib.Core.Bool.{false}
 use mathlib.Core.List.{List, _∷_}
+use mathlib.Core.Option.{none, some}
 use mathlib.Core.Path.{_≡_, refl, sym, ap, _∙_}
 use lib.ListN.{length, drop, getD, drop-of-length-le}
 use lib.Seq.{drop-cons}
 use borrow.Author.Tests.{le-leb, lt-leb}
 use Rattle.rules.specs.Text.{all, isOctal, octal, isNumber, numberOf}
-use Rattle.text.specs.Answers.{asNumber}
-use Rattle.text.specs.declared.numbers.Number.the-variants.{Value, NotANumber}
 use Rattle.text.proofs.ScanLaws.{all-step, all-stop, all-end, between-yes, and-false, too-short, too-long}
 
 -- ---- which answer
 
-no-number : (f : List ℕ) → isNumber f ≡ false → NotANumber ≡ asNumber (numberOf f)
-unfolding numberOf asNumber
+no-number : (f : List ℕ) → isNumber f ≡ false → none ≡ numberOf f
+unfolding numberOf
 no-number f e = simp e
 
-pub number-short : (f : List ℕ) → length f ≡ 0 → NotANumber ≡ asNumber (numberOf f)
+pub number-short : (f : List ℕ) → length f ≡ 0 → none ≡ numberOf f
 unfolding isNumber
 number-short f e = no-number f (too-short f _ e)
 
-pub number-long : (f : List ℕ) → 6 < length f → NotANumber ≡ asNumber (numberOf f)
+pub number-long : (f : List ℕ) → 6 < length f → none ≡ numberOf f
 unfolding isNumber
 number-long f h = no-number f (too-long f _ h)
 
@@ -33,7 +32,7 @@ number-long f h = no-number f (too-long f _ h)
 
 -- i digits are read, with that value: what is left decides
 pub record Digits (f : List ℕ) (i value : ℕ) : Type 0 where
-  pub some : 0 < length f
+  pub any : 0 < length f
   pub few : length f ≤ 6
   pub to : i ≤ length f
   pub small : value < 8 ^ i
@@ -42,7 +41,7 @@ pub record Digits (f : List ℕ) (i value : ℕ) : Type 0 where
 
 pub digits-start : (f : List ℕ) → (length f ≡ 0 → ⊥) → length f ≤ 6 → Digits f 0 0
 digits-start f h g =
-    record { some = omega arith; few = g; to = omega arith; small = omega arith; digits = refl; same = refl }
+    record { any = omega arith; few = g; to = omega arith; small = omega arith; digits = refl; same = refl }
 
 octal-cons : (v d : ℕ) (ds : List ℕ) → octal v (d ∷ ds) ≡ octal (v * 8 + (d - 48)) ds
 unfolding octal
@@ -53,19 +52,23 @@ module _ {f : List ℕ} {i value : ℕ} (s : Digits f i value) where
   pub digits-room : i ≤ 6 → value < 8 ^ 6
   digits-room h = omega (arith, pow-le-pow-right {n = 8} (omega arith) h, s .small)
 
-  pub digits-bad : i < length f → isOctal (getD f i 0) ≡ false → NotANumber ≡ asNumber (numberOf f)
+  pub digits-bad : i < length f → isOctal (getD f i 0) ≡ false → none ≡ numberOf f
   unfolding isNumber
   digits-bad h b = no-number f (simp (sym (s .digits) ∙ all-stop isOctal i f h b, and-false))
 
-  pub digits-step : i < length f → 48 ≤ getD f i 0 → getD f i 0 ≤ 55 → Digits f (i + 1) (value * 8 + (getD f i 0 - 48))
+  pub digits-step :
+      i < length f → 48 ≤ getD f i 0 → getD f i 0 ≤ 55 → Digits f (i + 1) (value * 8 + (getD f i 0 - 48))
   digits-step h low high =
       record {
-        some = s .some;
+        any = s .any;
         few = s .few;
         to = omega arith;
         small = rw add-one (omega (arith, s .small));
         digits = all-step isOctal i f h (between-yes 48 55 _ low high) ∙ s .digits;
-        same = sym (octal-cons value (getD f i 0) (drop (i + 1) f)) ∙ ap (octal value) (sym (rw (← add-one) at (drop-cons f i 0 h))) ∙ s .same;
+        same =
+            sym (octal-cons value (getD f i 0) (drop (i + 1) f))
+            ∙ ap (octal value) (sym (rw (← add-one) at (drop-cons f i 0 h)))
+            ∙ s .same;
       }
 
   module _ (h : length f ≤ i) where
@@ -73,15 +76,15 @@ module _ {f : List ℕ} {i value : ℕ} (s : Digits f i value) where
     unfolding octal
     value-is = rw (drop-of-length-le f h) at (s .same)
 
-    pub digits-big : 65535 < value → NotANumber ≡ asNumber (numberOf f)
+    pub digits-big : 65535 < value → none ≡ numberOf f
     unfolding isNumber
     digits-big g =
         no-number f (simp (lt-leb (octal 0 f) 65535 (omega (arith, value-is)), and-false))
 
-    pub digits-end : value ≤ 65535 → Value value ≡ asNumber (numberOf f)
-    unfolding isNumber numberOf asNumber
+    pub digits-end : value ≤ 65535 → some value ≡ numberOf f
+    unfolding isNumber numberOf
     digits-end g =
-        let size = between-yes 1 6 (length f) (s .some) (s .few) in
+        let size = between-yes 1 6 (length f) (s .any) (s .few) in
         let all-digits = sym (s .digits) ∙ all-end isOctal i f h in
         let most = le-leb (octal 0 f) 65535 (omega (arith, value-is)) in
-        simp (size, all-digits, most) (ap Value value-is)
+        simp (size, all-digits, most) (ap some value-is)

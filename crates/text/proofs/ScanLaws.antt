@@ -82,7 +82,9 @@ module _ (p : ℕ → Bool) where
   run-again [] = refl
   run-again (b ∷ rest) = go (p b) refl (run-again rest)
     where
-      go : (t : Bool) → p b ≡ t → run p (drop (run p rest) rest) ≡ 0 → run p (drop (run p (b ∷ rest)) (b ∷ rest)) ≡ 0
+      go :
+          (t : Bool) → p b ≡ t → run p (drop (run p rest) rest) ≡ 0
+          → run p (drop (run p (b ∷ rest)) (b ∷ rest)) ≡ 0
       go true e ih = rw (run-yes b rest e) ih
       go false e ih = rw (run-no b rest e) (run-no b rest e)
 
@@ -98,7 +100,9 @@ module _ (p : ℕ → Bool) where
   unfolding past run
   past-stop i e l h g b = rw (part-cons, b) (add-zero i)
 
-  pub past-step : (i e : ℕ) (l : List ℕ) → i < e → e ≤ length l → p (getD l i 0) ≡ true → past p (i + 1) e l ≡ past p i e l
+  pub past-step :
+      (i e : ℕ) (l : List ℕ) → i < e → e ≤ length l → p (getD l i 0) ≡ true
+      → past p (i + 1) e l ≡ past p i e l
   unfolding past run
   past-step i e l h g b = rw (part-cons i e l h g, b) (omega arith)
 

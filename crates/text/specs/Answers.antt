@@ -9,15 +9,15 @@ use Rattle.text.specs.declared.numbers.Number.the-variants.{Value, NotAN
 use Rattle.text.specs.declared.names.Name.{Name}
 use Rattle.text.specs.declared.names.Name.the-variants.{Packed, NotAName}
 
--- the answer of `read_number`, by what rules say that the field is
-unfoldable pub asNumber : Option ℕ → Number
-asNumber none = NotANumber
-asNumber (some v) = Value v
+-- the number that an answer holds
+abbrev pub numberIn : Number → Option ℕ
+numberIn (Value v) = some v
+numberIn NotANumber = none
 
--- the answer of `read_name`
-unfoldable pub asName : Option ℕ → Name
-asName none = NotAName
-asName (some n) = Packed n
+-- the packed name that an answer holds
+abbrev pub nameIn : Name → Option ℕ
+nameIn (Packed n) = some n
+nameIn NotAName = none
 
 -- r is the byte at k, 0 past the end
 pub record ByteAt (s : List ℕ) (k r : ℕ) : Type 0 where

@@ -1,4 +1,4 @@
-// Texts that a field is compared with.
+// Fields that are compared with a text.
 ghost use mathlib.Core.Path.{_≡_};
 ghost use mathlib.Core.List.{[], _∷_};
 ghost use Rattle.rules.specs.Line.{sameText, markerOf};
@@ -19,7 +19,8 @@ fn same_text(a: &[u8], b: &[u8]) -> bool
     true
 }
 
-// Where the marker of each block starts in the text of all markers, by its code: it stops where the next one starts. No block has code 2.
+// Where the marker of each block starts in the text of all markers, by its code; it stops where the next one starts.
+// No block has code 2.
 const STARTS: [usize; 13] = [0, 7, 13, 13, 21, 29, 35, 41, 47, 54, 61, 67, 76];
 
 // Is the field the marker of the block with this code? Where there is no such block, the marker is empty.

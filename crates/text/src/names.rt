@@ -1,7 +1,7 @@
 // Names: one to six characters, A to Z and 0 to 9, the first a letter.
 ghost use mathlib.Core.Path.{_≡_};
 ghost use Rattle.rules.specs.Text.{between, isLetter, isLetterOrDigit, isName, packName, nameOf};
-ghost use Rattle.text.specs.Answers.{asName, ByteAt};
+ghost use Rattle.text.specs.Answers.{nameIn, ByteAt};
 
 pub enum Name {
     // The name's six bytes in base 256, the first highest, 0 where it is shorter.
@@ -50,6 +50,7 @@ pub fn is_name(field: &[u8]) -> bool
     true
 }
 
+// 0 past the end, so that a short name is packed like a long one.
 fn byte_or_zero(field: &[u8], k: usize) -> u64
     ensures { λ r. ⌜ ByteAt (now (field .entry)) k r ⌝ }
 {
@@ -71,7 +72,7 @@ fn pack_name(field: &[u8]) -> u64
 }
 
 pub fn read_name(field: &[u8]) -> Name
-    ensures { λ r. ⌜ r ≡ asName (nameOf (now (field .entry))) ⌝ }
+    ensures { λ r. ⌜ nameIn r ≡ nameOf (now (field .entry)) ⌝ }
 {
     if !is_name(field) {
         return Name::NotAName;

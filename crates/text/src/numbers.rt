@@ -1,7 +1,7 @@
 // Numbers: one to six octal digits, at most 177777.
 ghost use mathlib.Core.Path.{_≡_};
 ghost use Rattle.rules.specs.Text.{numberOf};
-ghost use Rattle.text.specs.Answers.{asNumber};
+ghost use Rattle.text.specs.Answers.{numberIn};
 
 pub enum Number {
     Value(u16),
@@ -9,7 +9,7 @@ pub enum Number {
 }
 
 pub fn read_number(field: &[u8]) -> Number
-    ensures { λ r. ⌜ r ≡ asNumber (numberOf (now (field .entry))) ⌝ }
+    ensures { λ r. ⌜ numberIn r ≡ numberOf (now (field .entry)) ⌝ }
 {
     let n = field.len();
     if n == 0 {

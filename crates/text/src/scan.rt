@@ -1,4 +1,4 @@
-// Scanning.
+// Scanning over the file.
 ghost use Rattle.text.specs.Scan.{InFile, Found, isNot, past};
 
 // The first position from `at` on with that byte, or `stop`.

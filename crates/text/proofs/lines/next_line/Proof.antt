@@ -27,13 +27,17 @@ add-t10 : tie.Need-add-t10
 add-t10 c = search needs
 
 returns-3 : tie.Need-returns-3
-returns-3 c = stops-CRLF _ _ _ (c .before .before .before .before .find-byte .ensures) (search needs) (c .before .before .if2 .left) (c .if3 .taken)
+returns-3 c =
+    stops-CRLF _ _ _ (c .before .before .before .before .find-byte .ensures) (search needs)
+    (c .before .before .if2 .left) (c .if3 .taken)
 
 add-t5 : tie.Need-add-t5
 add-t5 c = search needs
 
 returns-4 : tie.Need-returns-4
-returns-4 c = stops-LF _ _ _ (c .before .before .before .before .find-byte .ensures) (search needs) (c .before .before .if2 .left) (c .if3 .left)
+returns-4 c =
+    stops-LF _ _ _ (c .before .before .before .before .find-byte .ensures) (search needs)
+    (c .before .before .if2 .left) (c .if3 .left)
 
 pub next-line-spec : {M : Type 1} → statement M
 next-line-spec =

@@ -47,7 +47,9 @@ same-text-requires c κs = search needs
 
 returns-2 : tie.Need-returns-2
 unfolding starts markers part bytes
-returns-2 c = c .same-text .ensures ∙ ap (sameText _) (marked (c .before .before .before .before .before .args .code) (search needs) .is)
+returns-2 c =
+    c .same-text .ensures
+    ∙ ap (sameText _) (marked (c .before .before .before .before .before .args .code) (search needs) .is)
 
 pub is-marker-spec : {M : Type 1} → statement M
 is-marker-spec =

@@ -18,7 +18,11 @@ returns : tie.Need-returns
 returns c = record { is = refl; small = omega (arith, c .shared-slice-known .given (c .before .before .args .k)) }
 
 returns-2 : tie.Need-returns-2
-returns-2 c = record { is = sym (List·getD-eq-default (now (c .before .args .field)) 0 (c .if1 .left)); small = omega arith }
+returns-2 c =
+    record {
+      is = sym (List·getD-eq-default (now (c .before .args .field)) 0 (c .if1 .left));
+      small = omega arith;
+    }
 
 pub byte-or-zero-spec : {M : Type 1} → statement M
 byte-or-zero-spec = tie.close (tie.spec shared-slice-read-result cast-result returns returns-2)

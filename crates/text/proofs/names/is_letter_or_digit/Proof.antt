@@ -13,10 +13,16 @@ is-between-requires : tie.Need-is-between-requires
 is-between-requires c κs = search needs
 
 returns : tie.Need-returns
-returns c = c .if1 .taken ∙ sym (letter (c .before .before .args .byte) (sym (c .before .is-letter .ensures) ∙ c .if1 .taken))
+returns c =
+    c .if1 .taken
+    ∙ sym (letter (c .before .before .args .byte) (sym (c .before .is-letter .ensures) ∙ c .if1 .taken))
 
 returns-2 : tie.Need-returns-2
-returns-2 c = c .is-between .ensures ∙ sym (no-letter (c .before .before .before .args .byte) (sym (c .before .before .is-letter .ensures) ∙ c .before .if1 .left))
+returns-2 c =
+    c .is-between .ensures
+    ∙ sym
+    (no-letter (c .before .before .before .args .byte)
+    (sym (c .before .before .is-letter .ensures) ∙ c .before .if1 .left))
 
 pub is-letter-or-digit-spec : {M : Type 1} → statement M
 is-letter-or-digit-spec =

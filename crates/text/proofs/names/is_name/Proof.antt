@@ -30,7 +30,9 @@ returns-3 : tie.Need-returns-3 Inv-loop μ-loop
 returns-3 c = sym (name-first _ (sym (c .before .is-letter .ensures) ∙ not-true _ (c .if3 .taken)))
 
 loop-holds : tie.Need-loop-holds Inv-loop μ-loop
-loop-holds c = characters-start _ (c .before .before .before .before .if1 .left) (c .before .before .before .if2 .left) (sym (c .before .is-letter .ensures) ∙ not-false _ (c .if3 .left))
+loop-holds c =
+    characters-start _ (c .before .before .before .before .if1 .left) (c .before .before .before .if2 .left)
+    (sym (c .before .is-letter .ensures) ∙ not-false _ (c .if3 .left))
 
 shared-slice-read-is-letter-or-digit :
     tie.Need-shared-slice-read-is-letter-or-digit Inv-loop μ-loop
@@ -40,7 +42,10 @@ is-letter-or-digit-requires : tie.Need-is-letter-or-digit-requires Inv-loop μ-l
 is-letter-or-digit-requires c κs = search needs
 
 returns-4 : tie.Need-returns-4 Inv-loop μ-loop
-returns-4 c = sym (characters-bad (c .before .before .before .before .loop .inv) (search needs) (sym (c .before .is-letter-or-digit .ensures) ∙ not-true _ (c .if4 .taken)))
+returns-4 c =
+    sym
+    (characters-bad (c .before .before .before .before .loop .inv) (search needs)
+    (sym (c .before .is-letter-or-digit .ensures) ∙ not-true _ (c .if4 .taken)))
 
 add-i : tie.Need-add-i Inv-loop μ-loop
 add-i c = search needs
@@ -49,7 +54,9 @@ loop-less : tie.Need-loop-less Inv-loop μ-loop
 loop-less c = search needs
 
 loop-again : tie.Need-loop-again Inv-loop μ-loop
-loop-again c = characters-step (c .before .before .before .before .loop .inv) (search needs) (sym (c .before .is-letter-or-digit .ensures) ∙ not-false _ (c .if4 .left))
+loop-again c =
+    characters-step (c .before .before .before .before .loop .inv) (search needs)
+    (sym (c .before .is-letter-or-digit .ensures) ∙ not-false _ (c .if4 .left))
 
 returns-5 : tie.Need-returns-5 Inv-loop μ-loop
 returns-5 c = sym (characters-end (c .before .loop .inv) (search needs))

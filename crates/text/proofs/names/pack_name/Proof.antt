@@ -55,7 +55,15 @@ add-result c = search needs
 
 returns : tie.Need-returns
 unfolding packName
-returns c = simp (c .before .before .before .before .before .byte-or-zero .ensures .is, c .before .before .before .before .byte-or-zero2 .ensures .is, c .before .before .before .byte-or-zero3 .ensures .is, c .before .before .byte-or-zero4 .ensures .is, c .before .byte-or-zero5 .ensures .is, c .byte-or-zero6 .ensures .is)
+returns c =
+    simp (
+      c .before .before .before .before .before .byte-or-zero .ensures .is,
+      c .before .before .before .before .byte-or-zero2 .ensures .is,
+      c .before .before .before .byte-or-zero3 .ensures .is,
+      c .before .before .byte-or-zero4 .ensures .is,
+      c .before .byte-or-zero5 .ensures .is,
+      c .byte-or-zero6 .ensures .is,
+    )
 
 pub pack-name-spec : {M : Type 1} → statement M
 pack-name-spec =

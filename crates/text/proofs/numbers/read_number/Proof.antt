@@ -48,7 +48,8 @@ loop-less : tie.Need-loop-less Inv-loop μ-loop
 loop-less c = search needs
 
 loop-again : tie.Need-loop-again Inv-loop μ-loop
-loop-again c = digits-step (c .before .before .before .before .loop .inv) (search needs) (c .before .if3 .left) (c .if4 .left)
+loop-again c =
+    digits-step (c .before .before .before .before .loop .inv) (search needs) (c .before .if3 .left) (c .if4 .left)
 
 returns-5 : tie.Need-returns-5 Inv-loop μ-loop
 returns-5 c = digits-big (c .before .before .loop .inv) (search needs) (c .if5 .taken)
