@@ -1,8 +1,13 @@
 -- A part's two cells decode to that part.
-use Prim.Native.Nat.{ℕ, _+_, _*_, _/_, _%_, _<_, _≤_}
+use Prim.Native.Nat.{ℕ, _+_, _-_, _*_, _/_, _%_, _<_, _≤_, min}
 use native.Mathlib.Omega.{arith}
 use mathlib.Core.Bool.{Bool, true, false, cond, _&&_}
 use mathlib.Core.Path.{_≡_, refl, sym, ap, ap₂, _∙_}
+use native.Mathlib.Nat.{lt-of-not-le}
+use native.Mathlib.Decide.{decLe}
+use mathlib.Core.List.{List, []}
+use lib.ListN.{length, take, drop, length-drop, drop-of-length-le}
+use lib.Seq.{take-all, take-nil}
 use lib.Dec.{eqb, leb, ltb}
 use borrow.Author.Tests.{leb-true, ltb-true}
 use Rattle.rules.specs.Line.{entry, codeWord}
@@ -69,3 +74,33 @@ part-back _ (reference-fits a t k h j) =
 part-back _ (unread-fits a t k h j) =
     let n : ℕ = a + 131072 * k in
     rw (kind-back 7 n (omega arith), numbers-back 7 n (omega arith), address-back a k h, number-back a k h j)
+
+-- ---- a range that passes the end of a table
+
+shorter : (n m : ℕ) (l : List ℕ) → length l ≤ n → length l ≤ m → take n l ≡ take m l
+shorter n m l h k = take-all n l h ∙ sym (take-all m l k)
+
+-- the range from s to e, cut at the length
+pub range-cut : (s e : ℕ) (l : List ℕ) →
+    take (min e (length l) - min s (min e (length l))) (drop (min s (min e (length l))) l) ≡ take (e - s) (drop s l)
+range-cut s e l = elim (decLe s (min e (length l))) [
+  | yes h ↦
+      let start : min s (min e (length l)) ≡ s = omega arith in
+      rw start (go h (decLe e (length l)))
+  | no h ↦
+      let size : min e (length l) - min s (min e (length l)) ≡ 0 = omega arith in
+      rw size (sym (past (lt-of-not-le h) (decLe e (length l))))
+]
+  where
+    go : s ≤ min e (length l) → Dec (e ≤ length l) → take (min e (length l) - s) (drop s l) ≡ take (e - s) (drop s l)
+    go h (yes k) = let same : min e (length l) ≡ e = omega arith in rw same
+    go h (no k) =
+        let long = lt-of-not-le k in
+        shorter (min e (length l) - s) (e - s) (drop s l) (omega (arith, length-drop s l)) (omega (arith, length-drop s l))
+
+    past : min e (length l) < s → Dec (e ≤ length l) → take (e - s) (drop s l) ≡ []
+    past h (yes k) = let none : e - s ≡ 0 = omega arith in rw none
+    past h (no k) =
+        let long = lt-of-not-le k in
+        let beyond : length l ≤ s = omega arith in
+        ap (take (e - s)) (drop-of-length-le l beyond) ∙ take-nil (e - s)

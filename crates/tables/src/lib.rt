@@ -5,7 +5,9 @@ use rules::line::Relocation;
 use rules::reading::Part;
 ghost use mathlib.Core.Path.{_≡_};
 ghost use Rattle.rules.specs.declared.reading.Part.the-variants.{EntryPart};
-ghost use Rattle.tables.specs.Tables.{partOf, wordHead, partHead, partBody};
+ghost use Prim.Native.Nat.{_+_, _*_, _<_, min};
+ghost use lib.ListN.{length};
+ghost use Rattle.tables.specs.Tables.{partOf, wordHead, partHead, partBody, cellsIn, startIn, endIn};
 
 // A part, from its two cells.
 pub fn part_of(head: u64, body: u64) -> Part
@@ -107,4 +109,21 @@ pub fn part_body(part: Part) -> u64
         } => 0,
         Part::WordPart { address: _, word } => word.text,
     }
+}
+
+fn least(a: usize, b: usize) -> usize
+    ensures { λ r. ⌜ r ≡ min a b ⌝ }
+{
+    if a < b { a } else { b }
+}
+
+// The cells of the module of row i. A range that passes the table's end stops there.
+pub fn module_cells<'a>(parts: &'a [u64], rows: &[u64], i: usize) -> &'a [u64]
+    requires { ⌜ 2 * i + 1 < length (now rows) ⌝ }
+    ensures { λ r. ⌜ now r ≡ cellsIn (now (parts .entry)) (startIn (now (rows .entry)) i) (endIn (now (rows .entry)) i) ⌝ }
+{
+    let body = rows[2 * i + 1];
+    let end = least((2 * (body / 65536)) as usize, parts.len());
+    let start = least((2 * (body % 65536)) as usize, end);
+    &parts[start..end]
 }
