@@ -1,0 +1,43 @@
+//! link: links object files to an image, over the proved library, as link.c does.
+//!
+//!     link IMAGE FILE ..
+#[path = "../rust/lnk100.rs"]
+mod lnk100;
+
+use lnk100::{Linker, Refused};
+use std::{env, fs, process::exit};
+
+fn stop(what: &str, r: Refused) -> ! {
+    println!("{what}: refused by {} at line {}", r.number, r.line);
+    exit(1)
+}
+
+fn main() {
+    let words: Vec<String> = env::args().skip(1).collect();
+    let [image, files @ ..] = words.as_slice() else {
+        println!("usage: link IMAGE FILE ..");
+        exit(2)
+    };
+    let mut linker = Linker::new();
+    for path in files {
+        let Ok(bytes) = fs::read(path) else {
+            println!("{path}: cannot be opened");
+            exit(1)
+        };
+        match linker.load(&bytes) {
+            Ok(rounds) => println!("{path}: loaded, {rounds} rounds"),
+            Err(r) => stop(path, r),
+        }
+    }
+    let mut index = 0;
+    while let Ok(Some(s)) = linker.symbol(index) {
+        println!("{:6} {:06o}{}", s.name, s.value, if s.defined { "" } else { " U" });
+        index += 1;
+    }
+    let bytes = linker.end().unwrap_or_else(|r| stop("END", r));
+    if fs::write(image, &bytes).is_err() {
+        println!("{image}: cannot be written");
+        exit(1)
+    }
+    println!("{image}: {} bytes", bytes.len());
+}

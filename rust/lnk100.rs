@@ -1,0 +1,125 @@
+//! A safe wrapper of the proved linker's calls. It owns the memory that the calls are lent and holds no linking logic.
+//!
+//! The declarations repeat include/lnk100.h; nothing checks them against the Rattle source.
+#![allow(dead_code)]
+
+pub const STATE_CELLS: usize = 8708;
+pub const WORK_CELLS: usize = 107_012;
+pub const IMAGE_BYTES: usize = 45_061;
+
+/// A refusal: document 01's number, and the line of the file where one is named.
+#[derive(Debug, Clone, Copy, PartialEq, Eq)]
+pub struct Refused {
+    pub number: u64,
+    pub line: u64,
+}
+
+#[derive(Debug, Clone, PartialEq, Eq)]
+pub struct Symbol {
+    pub name: String,
+    pub value: u16,
+    pub defined: bool,
+}
+
+mod calls {
+    #[repr(C)]
+    pub struct Load { pub number: u64, pub line: u64, pub rounds: u64 }
+    #[repr(C)]
+    pub struct Call { pub number: u64, pub line: u64 }
+    #[repr(C)]
+    pub struct Memory { pub number: u64, pub line: u64, pub high: u64 }
+    #[repr(C)]
+    pub struct Symbol { pub number: u64, pub line: u64, pub none: u64, pub name: u64, pub value: u64, pub defined: u64 }
+    #[repr(C)]
+    pub struct Undefined {
+        pub number: u64, pub line: u64, pub none: u64, pub name: u64, pub value: u64, pub defined: u64, pub highest: u64,
+    }
+    #[repr(C)]
+    pub struct End { pub number: u64, pub line: u64, pub length: u64 }
+
+    extern "C" {
+        pub fn lnk100_load(s: *mut u64, n: usize, w: *mut u64, m: usize, f: *const u8, k: usize) -> Load;
+        pub fn lnk100_force(s: *mut u64, n: usize, name: *const u8, k: usize) -> Call;
+        pub fn lnk100_base(s: *mut u64, n: usize, address: u64) -> Call;
+        pub fn lnk100_reset(s: *mut u64, n: usize) -> Call;
+        pub fn lnk100_memory(s: *const u64, n: usize) -> Memory;
+        pub fn lnk100_symbols(s: *const u64, n: usize, index: u64) -> Symbol;
+        pub fn lnk100_undefined(s: *const u64, n: usize, index: u64) -> Undefined;
+        pub fn lnk100_end(s: *mut u64, n: usize, out: *mut u8, k: usize) -> End;
+    }
+}
+
+/// One link: a state, and work memory for its loads.
+pub struct Linker {
+    state: Vec<u64>,
+    work: Vec<u64>,
+}
+
+fn done<T>(number: u64, line: u64, value: T) -> Result<T, Refused> {
+    if number == 0 { Ok(value) } else { Err(Refused { number, line }) }
+}
+
+fn unpacked(name: u64) -> String {
+    (0..6).rev().map(|k| (name >> (8 * k) & 255) as u8).filter(|&b| b != 0).map(char::from).collect()
+}
+
+impl Linker {
+    /// A fresh link.
+    pub fn new() -> Self {
+        let mut linker = Linker { state: vec![0; STATE_CELLS], work: vec![0; WORK_CELLS] };
+        linker.reset();
+        linker
+    }
+
+    pub fn reset(&mut self) {
+        // The length is right, and RESET tests nothing else.
+        unsafe { calls::lnk100_reset(self.state.as_mut_ptr(), self.state.len()) };
+    }
+
+    /// The rounds of the library searches.
+    pub fn load(&mut self, file: &[u8]) -> Result<u64, Refused> {
+        let a = unsafe {
+            calls::lnk100_load(
+                self.state.as_mut_ptr(), self.state.len(), self.work.as_mut_ptr(), self.work.len(), file.as_ptr(), file.len(),
+            )
+        };
+        done(a.number, a.line, a.rounds)
+    }
+
+    pub fn force(&mut self, name: &str) -> Result<(), Refused> {
+        let a = unsafe { calls::lnk100_force(self.state.as_mut_ptr(), self.state.len(), name.as_ptr(), name.len()) };
+        done(a.number, a.line, ())
+    }
+
+    pub fn base(&mut self, address: u64) -> Result<(), Refused> {
+        let a = unsafe { calls::lnk100_base(self.state.as_mut_ptr(), self.state.len(), address) };
+        done(a.number, a.line, ())
+    }
+
+    /// HIGH, 65,535 while the next address is 0.
+    pub fn high(&self) -> Result<u64, Refused> {
+        let a = unsafe { calls::lnk100_memory(self.state.as_ptr(), self.state.len()) };
+        done(a.number, a.line, a.high)
+    }
+
+    /// The symbol at an index in table order, or none past the end.
+    pub fn symbol(&self, index: u64) -> Result<Option<Symbol>, Refused> {
+        let a = unsafe { calls::lnk100_symbols(self.state.as_ptr(), self.state.len(), index) };
+        let found = Symbol { name: unpacked(a.name), value: a.value as u16, defined: a.defined == 1 };
+        done(a.number, a.line, if a.none == 1 { None } else { Some(found) })
+    }
+
+    /// The undefined symbol at an index, with the highest address that refers to it, 65,535 if none.
+    pub fn undefined(&self, index: u64) -> Result<Option<(String, u64)>, Refused> {
+        let a = unsafe { calls::lnk100_undefined(self.state.as_ptr(), self.state.len(), index) };
+        done(a.number, a.line, if a.none == 1 { None } else { Some((unpacked(a.name), a.highest)) })
+    }
+
+    /// The image.
+    pub fn end(&mut self) -> Result<Vec<u8>, Refused> {
+        let mut out = vec![0; IMAGE_BYTES];
+        let a = unsafe { calls::lnk100_end(self.state.as_mut_ptr(), self.state.len(), out.as_mut_ptr(), out.len()) };
+        out.truncate(a.length as usize);
+        done(a.number, a.line, out)
+    }
+}
