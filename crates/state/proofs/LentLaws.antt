@@ -51,12 +51,20 @@ sound-tidy s e =
     record {
       few = leb-true n 256 (first few (valued && (differ && (full && (worded && low)))) e);
       values =
-        all-weaken soundSymbol soundValue (λ y h. second (isPacked (y .name)) (soundValue y) h) (s .symbols)
-        (first valued (differ && (full && (worded && low))) e1);
+          all-weaken soundSymbol soundValue (λ y h. second (isPacked (y .name)) (soundValue y) h) (s .symbols)
+          (first valued (differ && (full && (worded && low))) e1);
       different = first differ (full && (worded && low)) e2;
       full = eqb-true (length (s .words)) 4096 (first full (worded && low) e3);
       words = first worded low e4;
-      low = leb-true (s .next) 4096 (second worded low e4) }
+      low = leb-true (s .next) 4096 (second worded low e4);
+    }
+
+pub sound-symbols : (s : State) → sound s ≡ true → all soundSymbol (s .symbols) ≡ true
+unfolding sound
+sound-symbols s e =
+    let n = length (s .symbols) in
+    let rest = differentNames (s .symbols) && (eqb (length (s .words)) 4096 && (all (soundWord n) (s .words) && leb (s .next) 4096)) in
+    first (all soundSymbol (s .symbols)) rest (second (leb n 256) (all soundSymbol (s .symbols) && rest) e)
 
 -- ---- sound cells
 
