@@ -1,6 +1,7 @@
 -- Tests that are joined, and two tests that hold together.
 use mathlib.Core.Bool.{Bool, true, false, cond, not, _&&_, _||_}
-use mathlib.Core.Path.{_≡_, refl, sym}
+use mathlib.Core.Path.{_≡_, refl, sym, _∙_}
+use borrow.Author.Tests.{not-true, not-false}
 
 pub both : (a b : Bool) → a ≡ true → b ≡ true → a && b ≡ true
 both a b p q = simp (p, q)
@@ -38,3 +39,10 @@ or-false false = refl
 pub not-not : (a : Bool) → not (not a) ≡ a
 not-not true = refl
 not-not false = refl
+
+-- a test that a call answers, after `if !call(..)`
+pub refused : (r t : Bool) → r ≡ t → not r ≡ true → t ≡ false
+refused r t e n = sym e ∙ not-true r n
+
+pub passed : (r t : Bool) → r ≡ t → not r ≡ false → t ≡ true
+passed r t e n = sym e ∙ not-false r n

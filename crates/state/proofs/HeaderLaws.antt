@@ -30,7 +30,7 @@ next-set cells n g b =
     (ap (λ (l : List ℕ). set l 1 n) (g .encoded))
 
 -- 0, 1 and 2 are the marks' cells
-mark-cell : (k : ℕ) → k ≤ 2 → k ≡ markCell (markOf k)
+pub mark-cell : (k : ℕ) → k ≤ 2 → k ≡ markCell (markOf k)
 unfolding markOf
 mark-cell k h = go (eqb k 0) (eqb k 1) refl refl
   where

@@ -135,6 +135,10 @@ pub count-is : (cells : List ℕ) → length (decode cells .symbols) ≡ getD ce
 unfolding decode symbolsFrom
 count-is cells = length-map-range (symbolIn cells) 0 (getD cells 0 0) ∙ omega arith
 
+pub words-long : (cells : List ℕ) → length (decode cells .words) ≡ 4096
+unfolding decode wordsFrom
+words-long cells = length-map-range (wordIn cells) 0 4096
+
 pub symbol-is : (cells : List ℕ) (i : ℕ) → i < getD cells 0 0 → getD (decode cells .symbols) i noSymbol ≡ symbolIn cells i
 unfolding decode symbolsFrom
 symbol-is cells i h = getD-map-range (symbolIn cells) (getD cells 0 0) i noSymbol h
@@ -143,9 +147,18 @@ pub word-is : (cells : List ℕ) (a : ℕ) → a < 4096 → getD (decode cells .
 unfolding decode wordsFrom
 word-is cells a h = getD-map-range (wordIn cells) 4096 a unplaced h
 
--- the value cells behind the last symbol's
-pub unused-value : (cells : List ℕ) → Good cells → (i : ℕ) → getD cells 0 0 ≤ i → i < 256 → getD cells (260 + i) 0 ≡ 0
-unused-value cells g i b h =
-    ap (λ (l : List ℕ). getD l (260 + i) 0) (g .encoded)
-    ∙ encode-value (decode cells) (g .tidy .few) i h
-    ∙ List·getD-eq-default (map valueCell (decode cells .symbols)) 0 (omega (arith, length-map (decode cells .symbols) valueCell, count-is cells))
+-- the cells behind the last symbol's
+module _ (cells : List ℕ) (g : Good cells) (i : ℕ) (b : getD cells 0 0 ≤ i) (h : i < 256) where
+  unused : (f : Symbol → ℕ) → getD (map f (decode cells .symbols)) i 0 ≡ 0
+  unused f =
+      List·getD-eq-default (map f (decode cells .symbols)) 0 (omega (arith, length-map (decode cells .symbols) f, count-is cells))
+
+  pub unused-name : getD cells (4 + i) 0 ≡ 0
+  unused-name =
+      ap (λ (l : List ℕ). getD l (4 + i) 0) (g .encoded) ∙ encode-name (decode cells) (g .tidy .few) i h ∙ unused nameCell
+
+  pub unused-value : getD cells (260 + i) 0 ≡ 0
+  unused-value =
+      ap (λ (l : List ℕ). getD l (260 + i) 0) (g .encoded)
+      ∙ encode-value (decode cells) (g .tidy .few) i h
+      ∙ unused valueCell

@@ -8,3 +8,4 @@ pub mod JoinLaws
 pub mod TableLaws
 pub mod WordLaws
 pub mod FreshLaws
+pub mod LentLaws

@@ -167,17 +167,18 @@ module _ {A : Type 0} (f : ℕ → A) where
 -- ---- a test at each number of a range
 
 module _ (p : ℕ → Bool) where
-  pub each-done : (a b : ℕ) → b ≤ a → all p (range a b) ≡ true
+  -- a loop stands at a, and what it has still to test comes to r: it fails, passes, or ends
+  pub each-stop : (a b : ℕ) (r : Bool) → all p (range a b) ≡ r → a < b → p a ≡ false → false ≡ r
   unfolding all
-  each-done a b h = rw range-end
+  each-stop a b r e h t = sym (rw (range-step, t)) ∙ e
 
-  pub each-pass : (a b : ℕ) → a < b → p a ≡ true → all p (range a b) ≡ all p (range (a + 1) b)
+  pub each-on : (a b : ℕ) (r : Bool) → all p (range a b) ≡ r → a < b → p a ≡ true → all p (range (a + 1) b) ≡ r
   unfolding all
-  each-pass a b h t = rw (range-step, t)
+  each-on a b r e h t = sym (rw (range-step, t)) ∙ e
 
-  pub each-fail : (a b : ℕ) → a < b → p a ≡ false → all p (range a b) ≡ false
+  pub each-end : (a b : ℕ) (r : Bool) → all p (range a b) ≡ r → b ≤ a → true ≡ r
   unfolding all
-  each-fail a b h t = rw (range-step, t)
+  each-end a b r e h = sym (rw range-end) ∙ e
 
   all-numbers : (a n : ℕ) → all p (numbers a n) ≡ true → (i : ℕ) → i < n → p (a + i) ≡ true
   unfolding all numbers

@@ -1,10 +1,13 @@
 -- Five lists behind each other, of 4, 256, 256, 4,096 and more cells: reading and changing a cell of each.
-use Prim.Native.Nat.{ℕ, _+_, _<_}
+use Prim.Native.Nat.{ℕ, zero, suc, _+_, _-_, _<_}
+use mathlib.Core.Bool.{Bool, true, false}
 use mathlib.Core.List.{List, _++_}
-use mathlib.Core.Path.{_≡_, ap, _∙_}
+use mathlib.Core.Path.{_≡_, refl, ap, subst, _∙_}
 use native.Mathlib.Omega.{arith}
 use lib.ListN.{length, getD, set, length-append, List·getD-append}
 use lib.Seq.{set-append-left}
+use lib.Dec.{ltb}
+use borrow.Author.Tests.{ltb-true, ltb-false}
 use Rattle.state.proofs.ListLaws.{set-behind, getD-behind}
 
 abbrev pub flat : List ℕ → List ℕ → List ℕ → List ℕ → List ℕ → List ℕ
@@ -81,3 +84,35 @@ module _ (h ns vs ts gs : List ℕ) (lh : length h ≡ 4) where
             ap (λ (k : ℕ). set (flat h ns vs ts gs) k v) (omega arith)
             ∙ set-past-values (4096 + i) v
             ∙ ap (λ (l : List ℕ). h ++ (ns ++ (vs ++ l))) (set-behind ts gs i (4096 + i) v (omega arith))
+
+-- what holds of each cell of each region holds of every cell
+pub each-region : (P : ℕ → Type 0) → ((k : ℕ) → k < 4 → P k) → ((i : ℕ) → i < 256 → P (4 + i)) → ((i : ℕ) → i < 256 → P (260 + i)) → ((a : ℕ) → a < 4096 → P (516 + a)) → ((a : ℕ) → a < 4096 → P (4612 + a)) → (k : ℕ) → k < 8708 → P k
+each-region P h ns vs ts gs k b = go (ltb k 4) (ltb k 260) (ltb k 516) (ltb k 4612) refl refl refl refl
+  where
+    from : (n i : ℕ) → n + i ≡ k → P (n + i) → P k
+    from n i e p = subst P e p
+
+    go : (w x y z : Bool) → ltb k 4 ≡ w → ltb k 260 ≡ x → ltb k 516 ≡ y → ltb k 4612 ≡ z → P k
+    go true x y z p q r t = h k (ltb-true k 4 p)
+    go false true y z p q r t =
+        let l = ltb-false k 4 p in
+        let u = ltb-true k 260 q in
+        from 4 (k - 4) (omega arith) (ns (k - 4) (omega arith))
+    go false false true z p q r t =
+        let l = ltb-false k 260 q in
+        let u = ltb-true k 516 r in
+        from 260 (k - 260) (omega arith) (vs (k - 260) (omega arith))
+    go false false false true p q r t =
+        let l = ltb-false k 516 r in
+        let u = ltb-true k 4612 t in
+        from 516 (k - 516) (omega arith) (ts (k - 516) (omega arith))
+    go false false false false p q r t =
+        let l = ltb-false k 4612 t in
+        from 4612 (k - 4612) (omega arith) (gs (k - 4612) (omega arith))
+
+pub each-of-four : (P : ℕ → Type 0) → P 0 → P 1 → P 2 → P 3 → (k : ℕ) → k < 4 → P k
+each-of-four P a b c d zero h = a
+each-of-four P a b c d (suc zero) h = b
+each-of-four P a b c d (suc (suc zero)) h = c
+each-of-four P a b c d (suc (suc (suc zero))) h = d
+each-of-four P a b c d (suc (suc (suc (suc k)))) h = absurd (omega arith)

@@ -1,0 +1,123 @@
+// The tests of soundness, each over a region of state memory.
+use crate::name::is_packed;
+ghost use Prim.Native.Nat.{_≤_};
+ghost use mathlib.Core.Path.{_≡_};
+ghost use lib.ListN.{length};
+ghost use Rattle.state.specs.Layout.{size};
+ghost use Rattle.soundness.specs.Checks.{headerSound, zeroBetween, valueSound, symbolsSound, unlike, namesDiffer, wordSound, wordsSound};
+
+pub fn header_sound(state: &[u64]) -> bool
+    requires { ⌜ length (now state) ≡ size ⌝ }
+    ensures { λ r. ⌜ r ≡ headerSound (now (state .entry)) ⌝ }
+{
+    if 256 < state[0] {
+        return false;
+    }
+    if 4096 < state[1] {
+        return false;
+    }
+    if 2 < state[2] {
+        return false;
+    }
+    state[3] == 0
+}
+
+pub fn zero_between(state: &[u64], from: usize, to: usize) -> bool
+    requires { ⌜ to ≤ length (now state) ⌝ }
+    ensures { λ r. ⌜ r ≡ zeroBetween (now (state .entry)) from to ⌝ }
+{
+    let mut k = from;
+    while k < to {
+        if state[k] != 0 {
+            return false;
+        }
+        k += 1;
+    }
+    true
+}
+
+fn value_sound(v: u64) -> bool
+    ensures { λ r. ⌜ r ≡ valueSound v ⌝ }
+{
+    if v == 0 {
+        return true;
+    }
+    if v < 65536 {
+        return false;
+    }
+    v <= 131071
+}
+
+pub fn symbols_sound(state: &[u64], n: usize) -> bool
+    requires { ⌜ length (now state) ≡ size ⌝ }
+    requires { ⌜ n ≤ 256 ⌝ }
+    ensures { λ r. ⌜ r ≡ symbolsSound (now (state .entry)) n ⌝ }
+{
+    let mut i = 0;
+    while i < n {
+        if !is_packed(state[4 + i]) {
+            return false;
+        }
+        if !value_sound(state[260 + i]) {
+            return false;
+        }
+        i += 1;
+    }
+    true
+}
+
+// No name from place i on is x.
+fn unlike_from(state: &[u64], x: u64, i: usize, n: usize) -> bool
+    requires { ⌜ length (now state) ≡ size ⌝ }
+    requires { ⌜ n ≤ 256 ⌝ }
+    ensures { λ r. ⌜ r ≡ unlike (now (state .entry)) x i n ⌝ }
+{
+    let mut j = i;
+    while j < n {
+        if state[4 + j] == x {
+            return false;
+        }
+        j += 1;
+    }
+    true
+}
+
+pub fn names_differ(state: &[u64], n: usize) -> bool
+    requires { ⌜ length (now state) ≡ size ⌝ }
+    requires { ⌜ n ≤ 256 ⌝ }
+    ensures { λ r. ⌜ r ≡ namesDiffer (now (state .entry)) n ⌝ }
+{
+    let mut i = 0;
+    while i < n {
+        if !unlike_from(state, state[4 + i], i + 1, n) {
+            return false;
+        }
+        i += 1;
+    }
+    true
+}
+
+fn word_sound(n: usize, text: u64, tag: u64) -> bool
+    requires { ⌜ n ≤ 256 ⌝ }
+    ensures { λ r. ⌜ r ≡ wordSound n text tag ⌝ }
+{
+    if tag == 0 {
+        return text == 0;
+    }
+    tag <= n as u64 + 1
+}
+
+pub fn words_sound(state: &[u64], n: usize) -> bool
+    requires { ⌜ length (now state) ≡ size ⌝ }
+    requires { ⌜ n ≤ 256 ⌝ }
+    ensures { λ r. ⌜ r ≡ wordsSound (now (state .entry)) n ⌝ }
+{
+    let mut a = 0;
+    while a < 4096 {
+        if !word_sound(n, state[516 + a], state[4612 + a]) {
+            return false;
+        }
+        a += 1;
+    }
+    true
+}

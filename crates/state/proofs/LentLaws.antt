@@ -1,0 +1,122 @@
+-- Sound cells: they are good, they are the encoding of what they decode to, and a sound state's encoding is sound.
+use Prim.Native.Nat.{ℕ, _≤_}
+use mathlib.Core.Bool.{Bool, true, false, cond, _&&_, _||_, false≢true}
+use mathlib.Core.List.{List, [], _∷_}
+use mathlib.Core.Logic.{_≢_}
+use mathlib.Core.Path.{_≡_, refl, sym, ap, ap₂, _∙_}
+use borrow.Author.Tests.{leb-true, eqb-true, eq-eqb, ne-eqb}
+use lib.ListN.{length}
+use lib.Dec.{eqb, leb}
+use Rattle.rules.specs.Text.{all, isPacked}
+use Rattle.rules.specs.Line.{sameText}
+use Rattle.rules.specs.State.{Symbol, State, soundSymbol, differentNames, soundWord, sound}
+use Rattle.rules.specs.Calls.{Lent, wrongLength, damaged, holding, Left, now}
+use Rattle.state.specs.Layout.{size, encode, decode, soundCells, lent, cellsAfter}
+use Rattle.state.specs.Good.{soundValue, Tidy, Good, Holds}
+use Rattle.state.proofs.BoolLaws.{both, first, second}
+use Rattle.state.proofs.ListLaws.{all-weaken}
+use Rattle.state.proofs.LayoutLaws.{decode-encode, encode-long, holds-encode, holds}
+
+-- ---- lists that a test finds alike
+
+pub same-text : (l m : List ℕ) → sameText l m ≡ true → l ≡ m
+unfolding sameText
+same-text [] [] e = refl
+same-text [] (y ∷ m) e = absurd (false≢true e)
+same-text (x ∷ l) [] e = absurd (false≢true e)
+same-text (x ∷ l) (y ∷ m) e =
+    ap₂ {C = List ℕ} (λ a r. a ∷ r) (eqb-true x y (first (eqb x y) (sameText l m) e)) (same-text l m (second (eqb x y) (sameText l m) e))
+
+pub text-same : (l : List ℕ) → sameText l l ≡ true
+unfolding sameText
+text-same [] = refl
+text-same (x ∷ l) = both (eqb x x) (sameText l l) (eq-eqb x x refl) (text-same l)
+
+-- ---- a sound state is tidy
+
+pub sound-tidy : (s : State) → sound s ≡ true → Tidy s
+unfolding sound soundSymbol soundValue
+sound-tidy s e =
+    let n = length (s .symbols) in
+    let few = leb n 256 in
+    let valued = all soundSymbol (s .symbols) in
+    let differ = differentNames (s .symbols) in
+    let full = eqb (length (s .words)) 4096 in
+    let worded = all (soundWord n) (s .words) in
+    let low = leb (s .next) 4096 in
+    let e1 = second few (valued && (differ && (full && (worded && low)))) e in
+    let e2 = second valued (differ && (full && (worded && low))) e1 in
+    let e3 = second differ (full && (worded && low)) e2 in
+    let e4 = second full (worded && low) e3 in
+    record {
+      few = leb-true n 256 (first few (valued && (differ && (full && (worded && low)))) e);
+      values =
+          all-weaken soundSymbol soundValue (λ y h. second (isPacked (y .name)) (soundValue y) h) (s .symbols)
+          (first valued (differ && (full && (worded && low))) e1);
+      different = first differ (full && (worded && low)) e2;
+      full = eqb-true (length (s .words)) 4096 (first full (worded && low) e3);
+      words = first worded low e4;
+      low = leb-true (s .next) 4096 (second worded low e4);
+    }
+
+pub sound-symbols : (s : State) → sound s ≡ true → all soundSymbol (s .symbols) ≡ true
+unfolding sound
+sound-symbols s e =
+    let n = length (s .symbols) in
+    let rest = differentNames (s .symbols) && (eqb (length (s .words)) 4096 && (all (soundWord n) (s .words) && leb (s .next) 4096)) in
+    first (all soundSymbol (s .symbols)) rest (second (leb n 256) (all soundSymbol (s .symbols) && rest) e)
+
+-- ---- sound cells
+
+-- "sound cells are the encoding of what they decode to"
+pub sound-cells : (cells : List ℕ) → soundCells cells ≡ true → cells ≡ encode (decode cells)
+unfolding soundCells
+sound-cells cells e =
+    same-text cells (encode (decode cells)) (first (sameText cells (encode (decode cells))) (sound (decode cells)) e)
+
+pub sound-state : (cells : List ℕ) → soundCells cells ≡ true → sound (decode cells) ≡ true
+unfolding soundCells
+sound-state cells e = second (sameText cells (encode (decode cells))) (sound (decode cells)) e
+
+pub sound-good : (cells : List ℕ) → soundCells cells ≡ true → Good cells
+sound-good cells e = holds cells (decode cells) (sound-tidy (decode cells) (sound-state cells e)) (sound-cells cells e) .good
+
+-- the other way: a test over both
+pub cells-sound : (cells : List ℕ) → cells ≡ encode (decode cells) → sound (decode cells) ≡ true → soundCells cells ≡ true
+unfolding soundCells
+cells-sound cells e y =
+    both (sameText cells (encode (decode cells))) (sound (decode cells))
+    (ap (sameText cells) (sym e) ∙ text-same cells)
+    y
+
+-- ---- what is lent
+
+pub lent-wrong : (cells : List ℕ) → length cells ≢ size → lent cells ≡ wrongLength
+unfolding lent
+lent-wrong cells h = rw (ne-eqb _ _ h)
+
+pub lent-damaged : (cells : List ℕ) → length cells ≡ size → soundCells cells ≡ false → lent cells ≡ damaged
+unfolding lent
+lent-damaged cells h e = rw (eq-eqb _ _ h, e)
+
+pub lent-holding : (cells : List ℕ) → length cells ≡ size → soundCells cells ≡ true → lent cells ≡ holding (decode cells)
+unfolding lent
+lent-holding cells h e = rw (eq-eqb _ _ h, e)
+
+-- a sound state's encoding is sound cells, and holds it
+pub lent-encode : (s : State) → sound s ≡ true → lent (encode s) ≡ holding s
+lent-encode s e =
+    let y = sound-tidy s e in
+    let back : decode (encode s) ≡ s = decode-encode s (y .few) (y .full) (y .values) in
+    lent-holding (encode s) (encode-long s (y .few) (y .full)) (cells-sound (encode s) (ap encode (sym back)) (ap sound back ∙ e))
+    ∙ ap holding back
+
+-- ---- what is left
+
+-- cells that hold a state are its encoding
+pub held-cells : (cells : List ℕ) (s : State) → Holds cells s → cells ≡ encode s
+held-cells cells s h = h .good .encoded ∙ ap encode (h .is)
+
+pub left-cells : (before cells : List ℕ) (s : State) → Holds cells s → cells ≡ cellsAfter before (now s)
+unfolding cellsAfter
+left-cells before cells s h = held-cells cells s h
