@@ -1,11 +1,17 @@
 // The calls that change a state: RESET, BASE, FORCE and END. Each tests what document 01 names, in its order, and asks nothing of
 // what it is lent.
-use image::{image_length, write_image};
-use rules::answer::{CallAnswer, EndAnswer};
+use image::image_length;
+use image::write_image;
+use rules::answer::CallAnswer;
+use rules::answer::EndAnswer;
 use soundness::memory::refusal;
-use state::header::{mark, set_mark, set_next, shut_by};
+use state::header::mark;
+use state::header::set_mark;
+use state::header::set_next;
+use state::header::shut_by;
 use state::table::mention;
-use text::names::{Name, read_name};
+use text::names::Name;
+use text::names::read_name;
 ghost use mathlib.Core.Path.{_≡_};
 ghost use Rattle.rules.specs.Calls.{callAnswer, endAnswer, reset as reset-outcome, base as base-outcome, force as force-outcome, end as end-outcome};
 ghost use Rattle.state.specs.Layout.{lent};
@@ -45,4 +51,55 @@ pub fn base(state: &mut [u64], address: u64) -> CallAnswer
     }
     set_next(state, address as usize);
     answer(0)
+}
+
+// A name as an undefined symbol.
+pub fn force(state: &mut [u64], name: &[u8]) -> CallAnswer
+    ensures { λ r. ⌜ Called (force-outcome (lent (now (state .entry))) (now (name .entry))) (now (state .entry)) r (now (state .exit)) ⌝ }
+{
+    let k = refusal(state);
+    if k != 0 {
+        return answer(k);
+    }
+    let shut = shut_by(state);
+    if shut != 0 {
+        return answer(shut);
+    }
+    let Name::Packed(packed) = read_name(name) else {
+        return answer(15);
+    };
+    if mention(state, packed) {
+        return answer(0);
+    }
+    answer(14)
+}
+
+fn end_answer(number: u64, length: u64) -> EndAnswer
+    ensures { λ r. ⌜ r ≡ endAnswer number length ⌝ }
+{
+    EndAnswer {
+        number,
+        line: 0,
+        length,
+    }
+}
+
+// The image, which freezes the state.
+pub fn end(state: &mut [u64], out: &mut [u8]) -> EndAnswer
+    ensures { λ r. ⌜ Ended (end-outcome (lent (now (state .entry))) (now (out .entry))) (now (state .entry)) r (now (state .exit)) (now (out .exit)) ⌝ }
+{
+    let k = refusal(state);
+    if k != 0 {
+        return end_answer(k, 0);
+    }
+    if mark(state) == 1 {
+        return end_answer(3, 0);
+    }
+    let n = image_length(state);
+    if out.len() < n {
+        return end_answer(16, 0);
+    }
+    write_image(state, out);
+    set_mark(state, 2);
+    end_answer(0, n as u64)
 }
