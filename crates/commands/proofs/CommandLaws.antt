@@ -22,7 +22,6 @@ use Rattle.state.specs.Good.{Good, Holds, withNext}
 use Rattle.state.specs.Table.{Joined}
 use Rattle.image.specs.Output.{overlay, Written}
 use Rattle.state.proofs.LentLaws.{lent-wrong, held-cells, left-cells}
-use Rattle.soundness.specs.Checks.{refusedBy, Refusal}
 use Rattle.commands.specs.Promise.{Called, Ended}
 
 -- ---- any call
@@ -38,17 +37,6 @@ called-done o s cells after a e h p =
       answer = p ∙ ap (λ (x : CallOutcome). x .answer) (sym e);
       cells = left-cells cells after s h ∙ ap (λ (x : CallOutcome). cellsAfter cells (x .left)) (sym e);
     }
-
--- memory that holds no state refuses every call alike
-module _ {X : Type 0} (F : Lent → X) (stop : ℕ → X) (short : F wrongLength ≡ stop 1) (broke : F damaged ≡ stop 2) where
-  refused-by : (l : Lent) (k : ℕ) → k ≡ refusedBy l → k ≢ 0 → F l ≡ stop k
-  unfolding refusedBy
-  refused-by wrongLength k e z = short ∙ ap stop (sym e)
-  refused-by damaged k e z = broke ∙ ap stop (sym e)
-  refused-by (holding s) k e z = absurd (z e)
-
-  pub refused : (cells : List ℕ) (k : ℕ) → Refusal cells k → k ≢ 0 → F (lent cells) ≡ stop k
-  refused cells k r z = refused-by (lent cells) k (r .is) z
 
 -- ---- RESET
 

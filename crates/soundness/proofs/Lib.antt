@@ -1,3 +1,4 @@
 pub mod NameLaws
 pub mod CheckLaws
 pub mod SoundLaws
+pub mod RefusalLaws

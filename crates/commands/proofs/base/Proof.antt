@@ -2,7 +2,8 @@ use native.Mathlib.Omega.{arith}
 use mathlib.Core.Path.{refl, sym, _∙_}
 use Rattle.rules.specs.Calls.{base, stopped}
 use Rattle.state.specs.Layout.{decode}
-use Rattle.commands.proofs.CommandLaws.{called-stopped, called-done, refused, base-shut, base-over, base-done}
+use Rattle.commands.proofs.CommandLaws.{called-stopped, called-done, base-shut, base-over, base-done}
+use Rattle.soundness.proofs.RefusalLaws.{refused}
 use borrow.Author.Needs.{needs}
 use Rattle.commands.proofs.base.Statement.{statement}
 use Rattle.commands.proofs.base.Tie as tie

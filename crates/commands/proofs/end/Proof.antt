@@ -2,7 +2,8 @@ use native.Mathlib.Omega.{arith}
 use mathlib.Core.Path.{refl}
 use Rattle.rules.specs.Calls.{end, endStopped}
 use Rattle.state.specs.Layout.{decode, markOf}
-use Rattle.commands.proofs.CommandLaws.{ended-stopped, ended-done, refused, end-broken, end-short, end-done}
+use Rattle.commands.proofs.CommandLaws.{ended-stopped, ended-done, end-broken, end-short, end-done}
+use Rattle.soundness.proofs.RefusalLaws.{refused}
 use borrow.Author.Needs.{needs}
 use Rattle.commands.proofs.end.Statement.{statement}
 use Rattle.commands.proofs.end.Tie as tie

@@ -3,7 +3,8 @@ use Rattle.rules.specs.Placing.{mention}
 use Rattle.rules.specs.Calls.{force, stopped}
 use Rattle.state.specs.Layout.{decode}
 use Rattle.text.specs.Answers.{nameIn}
-use Rattle.commands.proofs.CommandLaws.{called-stopped, called-joined, called-kept, refused, force-shut, force-illegal, force-done, force-full}
+use Rattle.commands.proofs.CommandLaws.{called-stopped, called-joined, called-kept, force-shut, force-illegal, force-done, force-full}
+use Rattle.soundness.proofs.RefusalLaws.{refused}
 use borrow.Author.Needs.{needs}
 use Rattle.commands.proofs.force.Statement.{statement}
 use Rattle.commands.proofs.force.Tie as tie
