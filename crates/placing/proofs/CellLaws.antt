@@ -20,7 +20,8 @@ use Rattle.rules.specs.declared.reading.Part.{Part}
 use Rattle.rules.specs.declared.reading.Part.the-variants.{EntryPart, ExternalPart, BlockPart, WordPart}
 use Rattle.tables.specs.Tables.{low16, noPart, partOf, partsOf}
 use Rattle.rules.proofs.BoolLaws.{cond-cases}
-use Rattle.placing.specs.Cells.{partsFrom, isEntry, entryOf, isExternal, blockEnd, isWord, addressOf, argumentOf, relocationOf, codeOf}
+use Rattle.placing.specs.Cells.{partsFrom, isEntry, entryOf, isExternal, blockEnd, isWord, addressOf, argumentOf, relocationOf, codeOf, isBad, isOver}
+use Rattle.placing.specs.Passes.{badCode, overRange}
 
 -- ---- the next part of a slice, and its end
 
@@ -109,3 +110,26 @@ module _ (h b : ℕ) where
         part-cases (λ p. lengthIn (p ∷ ps) ≡ max (blockEnd h) (lengthIn ps))
         (λ e. rw e) (λ e. rw e (omega arith)) (λ e. rw e (omega arith)) (λ e. rw e (omega arith))
         (λ e. rw e) (λ e. rw e (omega arith)) (λ e. rw e (omega arith)) (λ e. rw e (omega arith))
+
+    -- a test of the words, and one of the entries
+    pub bad-cons : (n : ℕ) → any (badCode n) (codeIn (partOf h b ∷ ps)) ≡ (isBad n h || any (badCode n) (codeIn ps))
+    unfolding codeIn any badArgument isBad
+    bad-cons n =
+        part-cases (λ p. any (badCode n) (codeIn (p ∷ ps)) ≡ (isBad n h || any (badCode n) (codeIn ps)))
+        (λ e. rw e) (λ e. rw e) (λ e. rw e) (λ e. rw e) (λ e. rw e) (λ e. rw e) (λ e. rw e) (λ e. rw e)
+
+    pub over-cons : (base : ℕ) →
+        any (overRange base) (entriesIn (partOf h b ∷ ps)) ≡ (isOver base h || any (overRange base) (entriesIn ps))
+    unfolding entriesIn any isOver
+    over-cons base =
+        part-cases
+        (λ p. any (overRange base) (entriesIn (p ∷ ps)) ≡ (isOver base h || any (overRange base) (entriesIn ps)))
+        (λ e. rw e) (λ e. rw e) (λ e. rw e) (λ e. rw e) (λ e. rw e) (λ e. rw e) (λ e. rw e) (λ e. rw e)
+
+pub block-end-most : (h : ℕ) → blockEnd h ≤ 131070
+unfolding blockEnd
+block-end-most h =
+    let count = low16 (h / 8 / 65536) in
+    cond-cases (λ k. k ≤ 131070) (eqb (h % 8) 4) _ _
+    (λ _. cond-cases (λ k. k ≤ 131070) (eqb count 0) _ _ (λ _. omega arith) (λ _. omega arith))
+    (λ _. omega arith)

@@ -1,2 +1,3 @@
 // Placing a module.
 mod heads;
+mod tests;
