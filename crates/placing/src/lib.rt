@@ -1,3 +1,5 @@
 // Placing a module.
+
 mod heads;
+mod names;
 mod tests;
