@@ -1,5 +1,0 @@
-// Placing a module.
-
-mod heads;
-mod names;
-mod tests;
