@@ -1,0 +1,2 @@
+// Placing a module.
+mod words;
