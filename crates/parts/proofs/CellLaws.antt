@@ -61,7 +61,7 @@ none k h n₁ n₂ n₃ n₄ n₅ n₆ n₇ =
 
 module _ (h b : ℕ) where
   -- what holds of a part of each kind holds of the part
-  part-cases : (P : Part → Type 0) →
+  pub part-cases : (P : Part → Type 0) →
       (h % 8 ≡ 0 → P noPart) →
       (h % 8 ≡ 1 → P (EntryPart (entry b (low16 (h / 8)) false (low16 (h / 8 / 65536))))) →
       (h % 8 ≡ 2 → P (EntryPart (entry b (low16 (h / 8)) true (low16 (h / 8 / 65536))))) →

@@ -5,6 +5,7 @@ use mathlib.Core.List.{List, [], _∷_}
 use mathlib.Core.Path.{_≡_}
 use lib.ListN.{length, getD, set}
 use lib.Dec.{ltb}
+use Rattle.rules.specs.Text.{any}
 use Rattle.rules.specs.State.{Symbol, placeOf, Word, plain, refers, State}
 use Rattle.rules.specs.Placing.{Code, clash, defineAll, mention, mentionAll}
 use Rattle.rules.specs.Calls.{withSymbols}
@@ -13,6 +14,7 @@ use Rattle.rules.specs.declared.line.Relocation.{Relocation}
 use Rattle.rules.specs.declared.line.Relocation.the-variants.{Plain, External, Unread}
 use Rattle.state.specs.Layout.{decode}
 use Rattle.state.specs.Good.{Good, withWords}
+use Rattle.parts.specs.Passes.{badCode}
 
 -- ---- words: first all of them without their references, then the references
 
@@ -33,3 +35,28 @@ pub record Laid (base : ℕ) (cs : List Code) (s : State) (r : Bool) (after : Li
 pub record Laying (base : ℕ) (whole : List Code) (s₀ : State) (rest : List Code) (s : State) : Type 0 where
   pub clash-is : clash base rest (s .words) ≡ clash base whole (s₀ .words)
   pub laid-is : laid base rest s ≡ laid base whole s₀
+
+-- a word that refers to external k is put again, with the place that stands for k
+unfoldable pub relink : List ℕ → ℕ → ℕ → Relocation → List Word → List Word
+relink at address text Plain ws = ws
+relink at address text (External k) ws = set ws address (refers text (getD at (k - 1) 0))
+relink at address text (Unread type) ws = ws
+
+unfoldable pub linkAt : ℕ → List ℕ → List Code → List Word → List Word
+linkAt base at [] ws = ws
+linkAt base at (c ∷ cs) ws = linkAt base at cs (relink at (base + c .address) (c .word .text) (c .word .relocation) ws)
+
+abbrev pub relinked : ℕ → List ℕ → List Code → State → State
+relinked base at cs s = withWords (linkAt base at cs (s .words)) s
+
+-- every external number is one of the n externals', and the n places are of symbols of the table
+pub record Linkable (n : ℕ) (cs : List Code) (at : List ℕ) (s : State) : Type 0 where
+  pub few : n ≤ 64
+  pub arguments : any (badCode n) cs ≡ false
+  pub there : (k : ℕ) → k < n → getD at k 0 < length (s .symbols)
+
+-- on the way
+pub record Linking (base n : ℕ) (at : List ℕ) (whole : List Code) (s₀ : State) (rest : List Code) (s : State) : Type 0 where
+  pub relinked-is : relinked base at rest s ≡ relinked base at whole s₀
+  pub table-is : s .symbols ≡ s₀ .symbols
+  pub arguments : any (badCode n) rest ≡ false
