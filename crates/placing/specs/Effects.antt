@@ -1,20 +1,20 @@
 -- What each pass that changes the state does to it, and what it says of that.
 use Prim.Native.Nat.{ℕ, _+_, _-_, _≤_, _<_}
 use mathlib.Core.Bool.{Bool, true, false, cond}
-use mathlib.Core.List.{List, [], _∷_}
+use mathlib.Core.List.{List, [], _∷_, map}
 use mathlib.Core.Path.{_≡_}
 use lib.ListN.{length, getD, set}
 use lib.Dec.{ltb}
 use Rattle.rules.specs.Text.{any}
 use Rattle.rules.specs.State.{Symbol, placeOf, Word, plain, refers, State}
-use Rattle.rules.specs.Placing.{Code, clash, defineAll, mention, mentionAll}
+use Rattle.rules.specs.Placing.{Code, entryName, clash, defineAll, mention, mentionAll}
 use Rattle.rules.specs.Calls.{withSymbols}
 use Rattle.rules.specs.declared.line.Entry.{Entry}
 use Rattle.rules.specs.declared.line.Relocation.{Relocation}
 use Rattle.rules.specs.declared.line.Relocation.the-variants.{Plain, External, Unread}
 use Rattle.state.specs.Layout.{decode}
 use Rattle.state.specs.Good.{Good, withWords}
-use Rattle.parts.specs.Passes.{badCode}
+use Rattle.parts.specs.Passes.{badCode, repeated}
 
 -- ---- words: first all of them without their references, then the references
 
@@ -60,3 +60,29 @@ pub record Linking (base n : ℕ) (at : List ℕ) (whole : List Code) (s₀ : St
   pub relinked-is : relinked base at rest s ≡ relinked base at whole s₀
   pub table-is : s .symbols ≡ s₀ .symbols
   pub arguments : any (badCode n) rest ≡ false
+
+-- ---- entries
+
+abbrev pub entered : ℕ → List Entry → State → State
+entered base es s = withSymbols (defineAll base es (s .symbols)) s
+
+-- 13 where a name is a second one, 14 where the table has no room for the entries
+abbrev pub enteringFault : ℕ → List Entry → State → ℕ
+enteringFault base es s =
+    cond (repeated (s .symbols) (map entryName es)) 13 (cond (ltb 256 (length (defineAll base es (s .symbols)))) 14 0)
+
+pub record Entered (base : ℕ) (es : List Entry) (s : State) (r : ℕ) (after : List ℕ) : Type 0 where
+  pub number : r ≡ enteringFault base es s
+  pub good : Good after
+  pub done : r ≡ 0 → decode after ≡ entered base es s
+
+-- on the way
+pub record Entering (base : ℕ) (whole : List Entry) (s₀ : State) (rest : List Entry) (s : State) : Type 0 where
+  pub number : enteringFault base rest s ≡ enteringFault base whole s₀
+  pub entered-is : entered base rest s ≡ entered base whole s₀
+
+-- the first part of a list is entered: with a fault that is the whole list's, or the rest says what the whole list said
+pub record EnteredPart (base : ℕ) (whole : List Entry) (s : State) (rest : List Entry) (r : ℕ) (after : List ℕ) : Type 0 where
+  pub good : Good after
+  pub stopped : (r ≡ 0 → ⊥) → r ≡ enteringFault base whole s
+  pub on : r ≡ 0 → Entering base whole s rest (decode after)

@@ -1,2 +1,3 @@
 // Placing a module.
+mod symbols;
 mod words;
