@@ -148,7 +148,7 @@ cond-longer : (n : ℕ) (b : Bool) (p q : List Symbol) → n ≤ length p → n 
 cond-longer n true p q h k = h
 cond-longer n false p q h k = k
 
-define-longer : (x v : ℕ) (t : List Symbol) → length t ≤ length (define x v t)
+pub define-longer : (x v : ℕ) (t : List Symbol) → length t ≤ length (define x v t)
 unfolding define
 define-longer x v [] = zero-le
 define-longer x v (s ∷ t) =
@@ -172,13 +172,13 @@ mention-longer x (s ∷ t) =
     (le-refl (suc (length t)))
     (suc-le-suc (mention-longer x t))
 
-defineAll-longer : (base : ℕ) (es : List Entry) (t : List Symbol) → length t ≤ length (defineAll base es t)
+pub defineAll-longer : (base : ℕ) (es : List Entry) (t : List Symbol) → length t ≤ length (defineAll base es t)
 unfolding defineAll
 defineAll-longer base [] t = le-refl (length t)
 defineAll-longer base (e ∷ es) t =
     omega (arith, define-longer (e .name) (valueAt base e) t, defineAll-longer base es (define (e .name) (valueAt base e) t))
 
-mentionAll-longer : (xs : List ℕ) (t : List Symbol) → length t ≤ length (mentionAll xs t)
+pub mentionAll-longer : (xs : List ℕ) (t : List Symbol) → length t ≤ length (mentionAll xs t)
 unfolding mentionAll
 mentionAll-longer [] t = le-refl (length t)
 mentionAll-longer (x ∷ xs) t = omega (arith, mention-longer x t, mentionAll-longer xs (mention x t))

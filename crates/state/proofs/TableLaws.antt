@@ -5,7 +5,7 @@ use mathlib.Core.List.{List, [], _∷_, _++_, map}
 use mathlib.Core.Logic.{_≢_}
 use mathlib.Core.Path.{_≡_, refl, sym, ap, subst, _∙_}
 use native.Mathlib.Omega.{arith}
-use borrow.Author.Tests.{le-leb, lt-leb}
+use borrow.Author.Tests.{le-leb, lt-leb, lt-ltb}
 use lib.ListN.{length, getD, set, length-map, length-set}
 use lib.Seq.{set-getD, getD-set-other}
 use lib.Dec.{eqb, leb}
@@ -15,7 +15,7 @@ use Rattle.rules.specs.Placing.{define, mention}
 use Rattle.rules.specs.Calls.{withSymbols}
 use Rattle.state.specs.Layout.{nameCell, valueCell, markCell, padded, header, names, values, texts, tags, encode, symbolIn, decode}
 use Rattle.state.specs.Good.{soundValue, Tidy, Good, Holds}
-use Rattle.state.specs.Table.{noSymbol, Place, Joined}
+use Rattle.state.specs.Table.{noSymbol, Place, Joined, MentionedAt}
 use Rattle.state.proofs.ListLaws.{put, length-put, map-put, set-padded}
 use Rattle.state.proofs.RegionLaws.{flat, set-name, set-value}
 use Rattle.state.proofs.LayoutLaws.{table-long, holds, count-is, symbol-is, unused-value}
@@ -128,10 +128,21 @@ module _ (cells : List ℕ) (g : Good cells) (x i : ℕ) (p : Place x (decode ce
       pub define-behind : getD cells 0 0 ≤ i → Joined (define x v t) (decode cells) true (set (set (set cells (4 + i) x) (260 + i) (v + 65536)) 0 (i + 1))
       define-behind b = as-defined true _ (put-behind v true sixteen within b)
 
-  pub mention-inside : i < getD cells 0 0 → Joined (mention x t) (decode cells) true cells
+  -- the place that is answered says whether there was room
+  mentioned-there : {after : List ℕ} → i < 256 → Joined (mention x t) (decode cells) true after → MentionedAt x (decode cells) i after
+  mentioned-there {after} h j =
+      record {
+        most = omega arith;
+        is = p .is;
+        joined = subst (λ (r : Bool). Joined (mention x t) (decode cells) r after) (sym (lt-ltb i 256 h)) j;
+      }
+
+  pub mention-inside : i < getD cells 0 0 → MentionedAt x (decode cells) i cells
   mention-inside b =
-      rw (mention-known x t (omega (arith, p .is, count-is cells)))
-      (joined-yes t (decode cells) cells (g .tidy .few) (record { good = g; is = refl }))
+      mentioned-there
+      (omega (arith, g .few))
+      (rw (mention-known x t (omega (arith, p .is, count-is cells)))
+      (joined-yes t (decode cells) cells (g .tidy .few) (record { good = g; is = refl })))
 
   module _ (b : getD cells 0 0 ≤ i) where
     as-mentioned : (r : Bool) (after : List ℕ) → Joined (put i (symbol x 0 false) t) (decode cells) r after → Joined (mention x t) (decode cells) r after
@@ -140,8 +151,13 @@ module _ (cells : List ℕ) (g : Good cells) (x i : ℕ) (p : Place x (decode ce
         (ap (λ (j : ℕ). put j (symbol x 0 false) t) (p .is)
         ∙ sym (mention-new x t (omega (arith, p .is, count-is cells))))
 
-    pub mention-full : i ≡ 256 → Joined (mention x t) (decode cells) false cells
-    mention-full e = as-mentioned false cells (put-full (symbol x 0 false) e)
+    pub mention-full : i ≡ 256 → MentionedAt x (decode cells) 256 cells
+    mention-full e =
+        record {
+          most = omega arith;
+          is = sym e ∙ p .is;
+          joined = as-mentioned false cells (put-full (symbol x 0 false) e);
+        }
 
     -- the value's cell is 0 already
     kept : i < 256 → set (set cells (4 + i) x) (260 + i) 0 ≡ set cells (4 + i) x
@@ -150,12 +166,13 @@ module _ (cells : List ℕ) (g : Good cells) (x i : ℕ) (p : Place x (decode ce
         getD-set-other cells (4 + i) (260 + i) x 0 (omega arith) ∙ unused-value cells g i b h in
         ap (set (set cells (4 + i) x) (260 + i)) (sym z) ∙ set-getD (set cells (4 + i) x) (260 + i) 0
 
-    pub mention-behind : i ≢ 256 → Joined (mention x t) (decode cells) true (set (set cells (4 + i) x) 0 (i + 1))
+    pub mention-behind : i ≢ 256 → MentionedAt x (decode cells) i (set (set cells (4 + i) x) 0 (i + 1))
     unfolding soundValue
     mention-behind e =
         let h : i < 256 = omega (arith, p .most, g .tidy .few) in
-        subst (λ (r : List ℕ). Joined (mention x t) (decode cells) true (set r 0 (i + 1))) (kept h)
-        (as-mentioned true _ (put-behind 0 false refl h b))
+        mentioned-there h
+        (subst (λ (r : List ℕ). Joined (mention x t) (decode cells) true (set r 0 (i + 1))) (kept h)
+        (as-mentioned true _ (put-behind 0 false refl h b)))
 
 -- ---- asking for a name
 

@@ -4,8 +4,9 @@ use mathlib.Core.Bool.{Bool, true, false, cond, not, _&&_}
 use mathlib.Core.List.{List, [], _∷_}
 use mathlib.Core.Path.{_≡_}
 use lib.ListN.{length}
-use lib.Dec.{eqb, leb}
+use lib.Dec.{eqb, leb, ltb}
 use Rattle.rules.specs.State.{Symbol, symbol, State, placeOf}
+use Rattle.rules.specs.Placing.{mention}
 use Rattle.rules.specs.Calls.{withSymbols, bit}
 use Rattle.state.specs.Good.{Holds}
 use Rattle.state.specs.declared.table.Listed.{Listed}
@@ -19,6 +20,12 @@ pub record Place (x : ℕ) (t : List Symbol) (r : ℕ) : Type 0 where
 pub record Joined (t : List Symbol) (s : State) (r : Bool) (after : List ℕ) : Type 0 where
   pub room : r ≡ leb (length t) 256
   pub holds : Holds after (cond (leb (length t) 256) (withSymbols t s) s)
+
+-- an external is mentioned, and stands at place r; r is 256 where the table had no room
+pub record MentionedAt (x : ℕ) (s : State) (r : ℕ) (after : List ℕ) : Type 0 where
+  pub most : r ≤ 256
+  pub is : r ≡ placeOf x (s .symbols)
+  pub joined : Joined (mention x (s .symbols)) s (ltb r 256) after
 
 -- a symbol as SYMBOLS and UNDEFINED tell it
 abbrev pub listed : Symbol → Listed

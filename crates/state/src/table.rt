@@ -6,7 +6,7 @@ ghost use Rattle.rules.specs.State.{isDefined, isUndefined, undefinedOnly};
 ghost use Rattle.rules.specs.Placing.{define as defined-in, mention as mentioned-in};
 ghost use Rattle.state.specs.Layout.{decode};
 ghost use Rattle.state.specs.Good.{Good};
-ghost use Rattle.state.specs.Table.{Place, Joined, listed, noSymbol, undefinedPlace};
+ghost use Rattle.state.specs.Table.{Place, Joined, MentionedAt, listed, noSymbol, undefinedPlace};
 
 // A symbol's place, the count of symbols where there is none.
 pub fn find(state: &[u64], name: u64) -> usize
@@ -67,22 +67,30 @@ pub fn define(state: &mut [u64], name: u64, value: u16) -> bool
     true
 }
 
-// An external joins the table undefined, if it is new. Nothing changes, and the answer is false, where the table is full.
-pub fn mention(state: &mut [u64], name: u64) -> bool
+// An external joins the table undefined, if it is new. The answer is its place; 256, and nothing changes, where the table is full.
+pub fn mention_at(state: &mut [u64], name: u64) -> usize
     requires { ⌜ Good (now state) ⌝ }
-    ensures { λ r. ⌜ Joined (mentioned-in name (decode (now (state .entry)) .symbols)) (decode (now (state .entry))) r (now (state .exit)) ⌝ }
+    ensures { λ r. ⌜ MentionedAt name (decode (now (state .entry))) r (now (state .exit)) ⌝ }
 {
     let i = find(state, name);
     let n = state[0] as usize;
     if i < n {
-        return true;
+        return i;
     }
     if i == 256 {
-        return false;
+        return 256;
     }
     state[4 + i] = name;
     state[0] = i as u64 + 1;
-    true
+    i
+}
+
+// The same, where only the room counts.
+pub fn mention(state: &mut [u64], name: u64) -> bool
+    requires { ⌜ Good (now state) ⌝ }
+    ensures { λ r. ⌜ Joined (mentioned-in name (decode (now (state .entry)) .symbols)) (decode (now (state .entry))) r (now (state .exit)) ⌝ }
+{
+    mention_at(state, name) < 256
 }
 
 // A symbol as the listings tell it.

@@ -1,7 +1,7 @@
 use borrow.Author.Needs.{needs}
 use Rattle.state.proofs.TableLaws.{mention-inside, mention-full, mention-behind}
-use Rattle.state.proofs.table.mention.Statement.{statement}
-use Rattle.state.proofs.table.mention.Tie as tie
+use Rattle.state.proofs.table.mention_at.Statement.{statement}
+use Rattle.state.proofs.table.mention_at.Tie as tie
 
 find-requires : tie.Need-find-requires
 find-requires c κs = search needs
@@ -42,8 +42,8 @@ same-length-3 c = search needs
 returns-3 : tie.Need-returns-3
 returns-3 c = mention-behind (c .before .before .before .before .before .before .args .state .now) (c .before .before .before .before .before .before .pre) (c .before .before .before .before .before .before .args .name) (c .before .before .before .find .result) (c .before .before .before .find .ensures) (c .before .if1 .left) (c .if2 .left)
 
-pub mention-spec : {M : Type 1} → statement M
-mention-spec =
+pub mention-at-spec : {M : Type 1} → statement M
+mention-at-spec =
     tie.close
     (tie.spec
     find-requires

@@ -1,0 +1,41 @@
+-- What the passes over a module's parts say that they found and did.
+use Prim.Native.Nat.{ℕ, _+_, _≤_}
+use mathlib.Core.Bool.{Bool, _&&_, _||_}
+use mathlib.Core.Path.{_≡_}
+use mathlib.Core.List.{List, map}
+use lib.ListN.{length, getD}
+use lib.Dec.{eqb, ltb}
+use Rattle.rules.specs.Text.{any}
+use Rattle.rules.specs.State.{Symbol, isDefined}
+use Rattle.rules.specs.Placing.{Code, entriesIn, externalsIn, lengthIn, entryName, badArgument, twice}
+use Rattle.rules.specs.declared.line.Entry.{Entry}
+use Rattle.rules.specs.declared.reading.Part.{Part}
+use Rattle.parts.specs.Cells.{partsFrom, isEntry}
+use Rattle.parts.specs.declared.tests.Extent.{Extent}
+
+-- a word whose external number is 0 or beyond the n externals; a relocated entry over 65,535 at a base
+abbrev pub badCode : ℕ → Code → Bool
+badCode n c = badArgument n (c .word .relocation)
+
+abbrev pub overRange : ℕ → Entry → Bool
+overRange base e = e .relocated && ltb 65535 (e .value + base)
+
+-- the names of the entries
+abbrev pub namesIn : List Part → List ℕ
+namesIn ps = map entryName (entriesIn ps)
+
+-- a name stands twice, or is defined in the table
+abbrev pub repeated : List Symbol → List ℕ → Bool
+repeated t names = twice names || any (λ x. isDefined x t) names
+
+-- the same of the part at cell i alone: it is an entry whose name is defined, or is entered again behind it
+abbrev pub isRepeated : List Symbol → List ℕ → ℕ → Bool
+isRepeated t cells i =
+    let x = getD cells (i + 1) 0 in
+    isEntry (getD cells i 0) && (isDefined x t || any (eqb x) (namesIn (partsFrom cells (i + 2))))
+
+-- the module's length, and how many externals it has
+pub record Surveyed (ps : List Part) (r : Extent) : Type 0 where
+  pub length-is : r .length ≡ lengthIn ps
+  pub few : r .length ≤ 131070
+  pub externals-is : r .externals ≡ length (externalsIn ps)

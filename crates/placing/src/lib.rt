@@ -1,0 +1,3 @@
+// Placing a module.
+mod symbols;
+mod words;
