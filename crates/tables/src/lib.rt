@@ -5,8 +5,8 @@ use rules::line::Relocation;
 use rules::reading::Part;
 ghost use mathlib.Core.Path.{_≡_};
 ghost use Rattle.rules.specs.declared.reading.Part.the-variants.{EntryPart};
-ghost use Prim.Native.Nat.{_+_, _*_, _<_, min};
-ghost use lib.ListN.{length};
+ghost use Prim.Native.Nat.{_≤_, min};
+ghost use lib.ListN.{getD};
 ghost use Rattle.tables.specs.Tables.{partOf, wordHead, partHead, partBody, cellsIn, startIn, endIn};
 
 // A part, from its two cells.
@@ -117,12 +117,22 @@ fn least(a: usize, b: usize) -> usize
     if a < b { a } else { b }
 }
 
+// A cell of a table, 0 past its end.
+pub fn cell(cells: &[u64], i: usize) -> u64
+    ensures { λ r. ⌜ r ≡ getD (now (cells .entry)) i 0 ⌝ }
+{
+    if i < cells.len() {
+        return cells[i];
+    }
+    0
+}
+
 // The cells of the module of row i. A range that passes the table's end stops there.
 pub fn module_cells<'a>(parts: &'a [u64], rows: &[u64], i: usize) -> &'a [u64]
-    requires { ⌜ 2 * i + 1 < length (now rows) ⌝ }
+    requires { ⌜ i ≤ 131072 ⌝ }
     ensures { λ r. ⌜ now r ≡ cellsIn (now (parts .entry)) (startIn (now (rows .entry)) i) (endIn (now (rows .entry)) i) ⌝ }
 {
-    let body = rows[2 * i + 1];
+    let body = cell(rows, 2 * i + 1);
     let end = least((2 * (body / 65536)) as usize, parts.len());
     let start = least((2 * (body % 65536)) as usize, end);
     &parts[start..end]
