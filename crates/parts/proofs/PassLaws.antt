@@ -67,7 +67,7 @@ module _ (cells : List ℕ) (i : ℕ) where
     body = getD cells (i + 1) 0
 
     -- the names from here on
-    names-next : namesIn (partsFrom cells i)
+    pub names-next : namesIn (partsFrom cells i)
         ≡ cond (isEntry head) (body ∷ namesIn (partsFrom cells (i + 2))) (namesIn (partsFrom cells (i + 2)))
     unfolding entryOf
     names-next =

@@ -23,7 +23,7 @@ fn is_entry_of(head: u64, body: u64, name: u64) -> bool
 }
 
 // Is there an entry of this name from cell `at` on?
-fn enters(parts: &[u64], at: usize, name: u64) -> bool
+pub fn enters(parts: &[u64], at: usize, name: u64) -> bool
     requires { ⌜ at ≤ length (now parts) ⌝ }
     ensures { λ r. ⌜ r ≡ any (eqb name) (namesIn (partsFrom (now (parts .entry)) at)) ⌝ }
 {
