@@ -129,11 +129,21 @@ holds-encode s y =
 pub holds : (cells : List ℕ) (s : State) → Tidy s → cells ≡ encode s → Holds cells s
 holds cells s y e = subst (λ (l : List ℕ). Holds l s) (sym e) (holds-encode s y)
 
+pub good-holds : (cells : List ℕ) → Good cells → Holds cells (decode cells)
+good-holds cells g = record { good = g; is = refl }
+
+-- two changes, one after the other
+pub holds-then : (f : State → State) (cells after : List ℕ) (s : State) → Holds cells s → Holds after (f (decode cells)) → Holds after (f s)
+holds-then f cells after s h k = record { good = k .good; is = k .is ∙ ap f (h .is) }
+
 -- ---- what good cells are read by
 
 pub count-is : (cells : List ℕ) → length (decode cells .symbols) ≡ getD cells 0 0
 unfolding decode symbolsFrom
 count-is cells = length-map-range (symbolIn cells) 0 (getD cells 0 0) ∙ omega arith
+
+pub inside : (cells : List ℕ) (i : ℕ) → i < length (decode cells .symbols) → i < getD cells 0 0
+inside cells i h = omega (arith, count-is cells)
 
 pub words-long : (cells : List ℕ) → length (decode cells .words) ≡ 4096
 unfolding decode wordsFrom

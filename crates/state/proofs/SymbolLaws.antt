@@ -10,6 +10,7 @@ use borrow.Author.Tests.{eq-eqb, ne-eqb, leb-true}
 use lib.ListN.{length, getD, List·getD-map}
 use lib.Dec.{eqb, leb}
 use Rattle.rules.specs.State.{Symbol, symbol, placeOf, undefinedOnly}
+use Rattle.rules.specs.Image.{valueOf}
 use Rattle.state.specs.Layout.{nameCell, valueCell, encode, range, symbolOf, symbolIn, symbolsFrom, decode}
 use Rattle.state.specs.Good.{soundValue, Tidy, Good}
 use Rattle.state.specs.Table.{noSymbol, listed, undefinedPlace}
@@ -103,3 +104,12 @@ module _ (cells : List ℕ) (g : Good cells) (i : ℕ) (h : i < getD cells 0 0) 
 
   pub listed-defined : getD cells (260 + i) 0 ≢ 0 → listed (getD (decode cells .symbols) i noSymbol) ≡ record { name = getD cells (4 + i) 0; value = getD cells (260 + i) 0 - 65536; defined = 1 }
   listed-defined e = rw (symbol-is cells i h, ne-eqb _ _ e)
+
+  -- what it adds to a word that refers to it
+  pub value-undefined : getD cells (260 + i) 0 ≡ 0 → valueOf (decode cells .symbols) i ≡ 0
+  unfolding valueOf
+  value-undefined e = rw (symbol-is cells i h, e)
+
+  pub value-defined : getD cells (260 + i) 0 ≢ 0 → valueOf (decode cells .symbols) i ≡ getD cells (260 + i) 0 - 65536
+  unfolding valueOf
+  value-defined e = rw (symbol-is cells i h, ne-eqb _ _ e)

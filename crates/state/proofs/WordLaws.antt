@@ -143,18 +143,16 @@ module _ (cells : List ℕ) (i a : ℕ) where
       (refers-is i (getD cells (516 + a) 0) (getD cells (4612 + a) 0))
       (omega (arith, length-map-range (wordIn cells) 0 a))
 
--- in the words of the code: the loop stands at a, and looks at a - 1
-module _ (cells : List ℕ) (i a : ℕ) (h : 0 < a) where
-  look : highest i (wordsBelow cells a) ≡ cond (eqb (getD cells (4612 + (a - 1)) 0) (2 + i)) (a - 1) (highest i (wordsBelow cells (a - 1)))
-  look =
-      let e : a ≡ a - 1 + 1 = omega arith in
-      ap (λ (k : ℕ). highest i (wordsBelow cells k)) e ∙ below-more cells i (a - 1)
+-- in the words of the code: k words are left, and the last of them is at a
+module _ (cells : List ℕ) (i a k : ℕ) (e : k ≡ a + 1) where
+  look : highest i (wordsBelow cells k) ≡ cond (eqb (getD cells (4612 + a) 0) (2 + i)) a (highest i (wordsBelow cells a))
+  look = ap (λ (j : ℕ). highest i (wordsBelow cells j)) e ∙ below-more cells i a
 
-  pub highest-here : getD cells (4612 + (a - 1)) 0 ≡ 2 + i → highest i (wordsBelow cells a) ≡ a - 1
-  highest-here e = look ∙ rw (eq-eqb _ _ e)
+  pub highest-here : getD cells (4612 + a) 0 ≡ 2 + i → highest i (wordsBelow cells k) ≡ a
+  highest-here h = look ∙ rw (eq-eqb _ _ h)
 
-  pub highest-lower : getD cells (4612 + (a - 1)) 0 ≢ 2 + i → highest i (wordsBelow cells (a - 1)) ≡ highest i (wordsBelow cells a)
-  highest-lower e = sym (look ∙ rw (ne-eqb _ _ e))
+  pub highest-lower : (j : ℕ) → j ≡ a → getD cells (4612 + a) 0 ≢ 2 + i → highest i (wordsBelow cells j) ≡ highest i (wordsBelow cells k)
+  highest-lower j d h = ap (λ (j : ℕ). highest i (wordsBelow cells j)) d ∙ sym (look ∙ rw (ne-eqb _ _ h))
 
 pub highest-all : (cells : List ℕ) (i : ℕ) → highest i (wordsBelow cells 4096) ≡ highest i (decode cells .words)
 unfolding wordsBelow decode wordsFrom

@@ -3,6 +3,7 @@ ghost use Prim.Native.Nat.{_<_};
 ghost use mathlib.Core.Path.{_≡_};
 ghost use lib.ListN.{length, getD};
 ghost use Rattle.rules.specs.State.{isDefined, isUndefined, undefinedOnly};
+ghost use Rattle.rules.specs.Image.{valueOf};
 ghost use Rattle.rules.specs.Placing.{define as defined-in, mention as mentioned-in};
 ghost use Rattle.state.specs.Layout.{decode};
 ghost use Rattle.state.specs.Good.{Good};
@@ -72,16 +73,16 @@ pub fn mention(state: &mut [u64], name: u64) -> bool
     requires { ⌜ Good (now state) ⌝ }
     ensures { λ r. ⌜ Joined (mentioned-in name (decode (now (state .entry)) .symbols)) (decode (now (state .entry))) r (now (state .exit)) ⌝ }
 {
-    let i = find(state, name);
+    let at = find(state, name);
     let n = state[0] as usize;
-    if i < n {
+    if at < n {
         return true;
     }
-    if i == 256 {
+    if at == 256 {
         return false;
     }
-    state[4 + i] = name;
-    state[0] = i as u64 + 1;
+    state[4 + at] = name;
+    state[0] = at as u64 + 1;
     true
 }
 
@@ -111,6 +112,19 @@ pub fn symbol_at(state: &[u64], i: usize) -> Listed
         value: v - 65536,
         defined: 1,
     }
+}
+
+// What a reference to the symbol adds: its value, 0 where it is undefined.
+pub fn value_of(state: &[u64], i: usize) -> u16
+    requires { ⌜ Good (now state) ⌝ }
+    requires { ⌜ i < length (decode (now state) .symbols) ⌝ }
+    ensures { λ r. ⌜ r ≡ valueOf (decode (now (state .entry)) .symbols) i ⌝ }
+{
+    let v = state[260 + i];
+    if v == 0 {
+        return 0;
+    }
+    (v - 65536) as u16
 }
 
 pub fn undefined_count(state: &[u64]) -> usize

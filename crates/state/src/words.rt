@@ -65,12 +65,13 @@ pub fn highest(state: &[u64], symbol: usize) -> usize
     ensures { λ r. ⌜ r ≡ highest-in symbol (decode (now (state .entry)) .words) ⌝ }
 {
     let wanted = 2 + symbol as u64;
-    let mut a = 4096;
-    while 0 < a {
-        a -= 1;
+    let mut i = 0;
+    while i < 4096 {
+        let a = 4095 - i;
         if state[4612 + a] == wanted {
             return a;
         }
+        i += 1;
     }
     65535
 }
