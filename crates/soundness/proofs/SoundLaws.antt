@@ -168,7 +168,7 @@ module _ (cells : List ℕ) where
     unfolding headerSound encode
     header-from =
         let spare : getD cells 3 0 ≡ 0 = ap (λ (l : List ℕ). getD l 3 0) (g .encoded) in
-        rw (le-leb n 256 (g .few), le-leb (getD cells 1 0) 4096 (g .low), le-leb (getD cells 2 0) 2 (marks (getD cells 2 0) (d .mark) (mark-is cells g)), eq-eqb (getD cells 3 0) 0 spare)
+        rw (le-leb n 256 (g .few), le-leb (getD cells 1 0) 4096 (g .low), le-leb (getD cells 2 0) 2 (marks (getD cells 2 0) (d .mark) (mark-is g)), eq-eqb (getD cells 3 0) 0 spare)
 
     zeroes-from : (a b : ℕ) → ((k : ℕ) → a ≤ k → k < b → getD cells k 0 ≡ 0) → zeroBetween cells a b ≡ true
     unfolding zeroBetween
@@ -179,14 +179,14 @@ module _ (cells : List ℕ) where
         zeroes-from (4 + n) 260
         (λ k l u.
         let same : k ≡ 4 + (k - 4) = omega arith in
-        ap (λ (j : ℕ). getD cells j 0) same ∙ unused-name cells g (k - 4) (omega arith) (omega arith))
+        ap (λ (j : ℕ). getD cells j 0) same ∙ unused-name g (k - 4) (omega arith) (omega arith))
 
     pub values-from : zeroBetween cells (260 + n) 516 ≡ true
     values-from =
         zeroes-from (260 + n) 516
         (λ k l u.
         let same : k ≡ 260 + (k - 260) = omega arith in
-        ap (λ (j : ℕ). getD cells j 0) same ∙ unused-value cells g (k - 260) (omega arith) (omega arith))
+        ap (λ (j : ℕ). getD cells j 0) same ∙ unused-value g (k - 260) (omega arith) (omega arith))
 
     pub symbols-from : symbolsSound cells n ≡ true
     unfolding symbolsSound soundSymbol soundValue
@@ -197,7 +197,7 @@ module _ (cells : List ℕ) where
         (first (isPacked (getD cells (4 + i) 0)) (soundValue (symbolIn cells i))
         (ap soundSymbol (sym (symbol-is cells i u))
         ∙ all-at soundSymbol (d .symbols) noSymbol (sound-symbols d (sound-state cells e)) i (omega (arith, count-is cells))))
-        (sound-value (getD cells (260 + i) 0) (value-small cells g i u) (value-large cells g i u)))
+        (sound-value (getD cells (260 + i) 0) (value-small g i u) (value-large g i u)))
 
     pub differ-from : namesDiffer cells n ≡ true
     unfolding decode
@@ -208,8 +208,8 @@ module _ (cells : List ℕ) where
     words-from =
         range-all (wordSoundAt cells n) 0 4096
         (λ a l u.
-        let t = tag-is cells g a u in
-        sound-word n (getD cells (516 + a) 0) (getD cells (4612 + a) 0) (getD (d .words) a unplaced) (text-is cells g a u) (t .is) (omega (arith, t .inside, count-is cells)))
+        let t = tag-is g a u in
+        sound-word n (getD cells (516 + a) 0) (getD cells (4612 + a) 0) (getD (d .words) a unplaced) (text-is g a u) (t .is) (omega (arith, t .inside, count-is cells)))
 
 -- ---- what is lent, as the code tells it
 

@@ -93,7 +93,8 @@ undefinedTold j y s =
       name = y .name;
       value = y .value;
       defined = bit (y .defined);
-      highest = highest j (s .words) }
+      highest = highest j (s .words);
+    }
 
 pub undefined-told : (s : State) → Tidy s → (k j : ℕ) → j ≡ undefinedPlace k (s .symbols) → j < length (s .symbols) → undefinedAt s k ≡ undefinedTold j (getD (s .symbols) j noSymbol) s
 unfolding undefinedAt
@@ -101,7 +102,7 @@ undefined-told s y k j e h =
     let t = s .symbols in
     let more : k < length (undefinedOnly t) = more-undefined t k (omega arith) in
     let same : getD (undefinedOnly t) k noSymbol ≡ getD t j noSymbol =
-        undefined-at t k more .1 ∙ ap (λ (i : ℕ). getD t i noSymbol) (sym e) in
+    undefined-at t k more .1 ∙ ap (λ (i : ℕ). getD t i noSymbol) (sym e) in
     rw (lt-ltb k (length (undefinedOnly t)) more)
     (ap (undefinedIs s) same
     ∙ ap (λ (i : ℕ). undefinedTold i (getD t j noSymbol) s) (own-place t j (y .different) h))

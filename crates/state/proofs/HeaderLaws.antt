@@ -14,9 +14,9 @@ use Rattle.state.specs.Layout.{encode, decode, markCell, markOf}
 use Rattle.state.specs.Good.{Tidy, Good, Holds, withNext}
 use Rattle.state.proofs.LayoutLaws.{holds}
 
-pub next-set : (cells : List ℕ) (n : ℕ) → Good cells → n ≤ 4096 → Holds (set cells 1 n) (withNext n (decode cells))
+pub next-set : {cells : List ℕ} → Good cells → (n : ℕ) → n ≤ 4096 → Holds (set cells 1 n) (withNext n (decode cells))
 unfolding encode
-next-set cells n g b =
+next-set {cells} g n b =
     let y = g .tidy in
     holds (set cells 1 n) (withNext n (decode cells))
     (record {
@@ -42,9 +42,9 @@ mark-cell k h = go (eqb k 0) (eqb k 1) refl refl
         let n : k ≢ 1 = eqb-false k 1 q in
         omega arith
 
-pub mark-set : (cells : List ℕ) (k : ℕ) → Good cells → k ≤ 2 → Holds (set cells 2 k) (marked (markOf k) (decode cells))
+pub mark-set : {cells : List ℕ} → Good cells → (k : ℕ) → k ≤ 2 → Holds (set cells 2 k) (marked (markOf k) (decode cells))
 unfolding encode
-mark-set cells k g b =
+mark-set {cells} g k b =
     let y = g .tidy in
     holds (set cells 2 k) (marked (markOf k) (decode cells))
     (record {
@@ -58,9 +58,9 @@ mark-set cells k g b =
     (ap (λ (l : List ℕ). set l 2 k) (g .encoded)
     ∙ ap (λ (j : ℕ). set (encode (decode cells)) 2 j) (mark-cell k b))
 
-pub mark-is : (cells : List ℕ) → Good cells → getD cells 2 0 ≡ markCell (decode cells .mark)
+pub mark-is : {cells : List ℕ} → Good cells → getD cells 2 0 ≡ markCell (decode cells .mark)
 unfolding encode
-mark-is cells g = ap (λ (l : List ℕ). getD l 2 0) (g .encoded)
+mark-is g = ap (λ (l : List ℕ). getD l 2 0) (g .encoded)
 
 pub shut-is : (m : Mark) (k : ℕ) → k ≡ markCell m → shutBy m ≡ cond (eqb k 0) 0 (cond (eqb k 1) 3 4)
 unfolding shutBy

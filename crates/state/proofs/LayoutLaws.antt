@@ -129,12 +129,12 @@ holds-encode s y =
 pub holds : (cells : List ℕ) (s : State) → Tidy s → cells ≡ encode s → Holds cells s
 holds cells s y e = subst (λ (l : List ℕ). Holds l s) (sym e) (holds-encode s y)
 
-pub good-holds : (cells : List ℕ) → Good cells → Holds cells (decode cells)
-good-holds cells g = record { good = g; is = refl }
+pub good-holds : {cells : List ℕ} → Good cells → Holds cells (decode cells)
+good-holds g = record { good = g; is = refl }
 
 -- two changes, one after the other
-pub holds-then : (f : State → State) (cells after : List ℕ) (s : State) → Holds cells s → Holds after (f (decode cells)) → Holds after (f s)
-holds-then f cells after s h k = record { good = k .good; is = k .is ∙ ap f (h .is) }
+pub holds-then : (f : State → State) {cells after : List ℕ} {s : State} → Holds cells s → Holds after (f (decode cells)) → Holds after (f s)
+holds-then f h k = record { good = k .good; is = k .is ∙ ap f (h .is) }
 
 -- ---- what good cells are read by
 
@@ -158,7 +158,7 @@ unfolding decode wordsFrom
 word-is cells a h = getD-map-range (wordIn cells) 4096 a unplaced h
 
 -- the cells behind the last symbol's
-module _ (cells : List ℕ) (g : Good cells) (i : ℕ) (b : getD cells 0 0 ≤ i) (h : i < 256) where
+module _ {cells : List ℕ} (g : Good cells) (i : ℕ) (b : getD cells 0 0 ≤ i) (h : i < 256) where
   unused : (f : Symbol → ℕ) → getD (map f (decode cells .symbols)) i 0 ≡ 0
   unused f =
       List·getD-eq-default (map f (decode cells .symbols)) 0 (omega (arith, length-map (decode cells .symbols) f, count-is cells))

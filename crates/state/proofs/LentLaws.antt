@@ -114,9 +114,9 @@ lent-encode s e =
 -- ---- what is left
 
 -- cells that hold a state are its encoding
-pub held-cells : (cells : List ℕ) (s : State) → Holds cells s → cells ≡ encode s
-held-cells cells s h = h .good .encoded ∙ ap encode (h .is)
+pub held-cells : {cells : List ℕ} {s : State} → Holds cells s → cells ≡ encode s
+held-cells h = h .good .encoded ∙ ap encode (h .is)
 
-pub left-cells : (before cells : List ℕ) (s : State) → Holds cells s → cells ≡ cellsAfter before (now s)
+pub left-cells : (before : List ℕ) {cells : List ℕ} {s : State} → Holds cells s → cells ≡ cellsAfter before (now s)
 unfolding cellsAfter
-left-cells before cells s h = held-cells cells s h
+left-cells before h = held-cells h

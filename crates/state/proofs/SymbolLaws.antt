@@ -75,7 +75,7 @@ module _ (cells : List ℕ) (i : ℕ) where
 
 -- ---- the value cells of good memory
 
-module _ (cells : List ℕ) (g : Good cells) (i : ℕ) (h : i < getD cells 0 0) where
+module _ {cells : List ℕ} (g : Good cells) (i : ℕ) (h : i < getD cells 0 0) where
   value-cell : getD cells (260 + i) 0 ≡ valueCell (symbolIn cells i)
   value-cell =
       ap (λ (l : List ℕ). getD l (260 + i) 0) (g .encoded)

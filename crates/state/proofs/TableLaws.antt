@@ -69,7 +69,7 @@ joined-no t s cells h k =
     let e : leb (length t) 256 ≡ false = lt-leb (length t) 256 h in
     record { room = sym e; holds = rw e k }
 
-module _ (cells : List ℕ) (g : Good cells) (x i : ℕ) (p : Place x (decode cells .symbols) i) where
+module _ {cells : List ℕ} (g : Good cells) {x i : ℕ} (p : Place x (decode cells .symbols) i) where
   abbrev t : List Symbol
   t = decode cells .symbols
 
@@ -147,7 +147,7 @@ module _ (cells : List ℕ) (g : Good cells) (x i : ℕ) (p : Place x (decode ce
     kept : i < 256 → set (set cells (4 + i) x) (260 + i) 0 ≡ set cells (4 + i) x
     kept h =
         let z : getD (set cells (4 + i) x) (260 + i) 0 ≡ 0 =
-        getD-set-other cells (4 + i) (260 + i) x 0 (omega arith) ∙ unused-value cells g i b h in
+        getD-set-other cells (4 + i) (260 + i) x 0 (omega arith) ∙ unused-value g i b h in
         ap (set (set cells (4 + i) x) (260 + i)) (sym z) ∙ set-getD (set cells (4 + i) x) (260 + i) 0
 
     pub mention-behind : i ≢ 256 → Joined (mention x t) (decode cells) true (set (set cells (4 + i) x) 0 (i + 1))
@@ -159,7 +159,7 @@ module _ (cells : List ℕ) (g : Good cells) (x i : ℕ) (p : Place x (decode ce
 
 -- ---- asking for a name
 
-module _ (cells : List ℕ) (g : Good cells) (x i : ℕ) (p : Place x (decode cells .symbols) i) where
+module _ {cells : List ℕ} (g : Good cells) {x i : ℕ} (p : Place x (decode cells .symbols) i) where
   pub name-there : (q : Symbol → Bool) → i < getD cells 0 0 → any (λ s. nameIs x s && q s) (decode cells .symbols) ≡ q (symbolIn cells i)
   name-there q b =
       at-place x q (decode cells .symbols) (g .tidy .different) (omega (arith, p .is, count-is cells))

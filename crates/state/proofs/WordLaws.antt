@@ -31,7 +31,7 @@ placed-is text tag = go (eqb tag 0) (eqb tag 1)
     go false true = refl
     go false false = refl
 
-module _ (cells : List ℕ) (g : Good cells) (a : ℕ) where
+module _ {cells : List ℕ} (g : Good cells) (a : ℕ) where
   pub is-placed-at : a < 4096 → isPlaced (getD (decode cells .words) a unplaced) ≡ not (eqb (getD cells (4612 + a) 0) 0)
   is-placed-at h = ap isPlaced (word-is cells a h) ∙ placed-is (getD cells (516 + a) 0) (getD cells (4612 + a) 0)
 

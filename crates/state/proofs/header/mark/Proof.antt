@@ -7,7 +7,7 @@ shared-slice-read-result : tie.Need-shared-slice-read-result
 shared-slice-read-result c = search needs
 
 returns : tie.Need-returns
-returns c = mark-is (c .before .args .state .now) (c .before .pre)
+returns c = mark-is (c .before .pre)
 
 pub mark-spec : {M : Type 1} → statement M
 mark-spec = tie.close (tie.spec shared-slice-read-result returns)

@@ -10,7 +10,7 @@ same-length : tie.Need-same-length
 same-length c = search needs
 
 returns : tie.Need-returns
-returns c = mark-set (c .args .state .now) (c .args .mark) (c .pre .0) (c .pre .1)
+returns c = mark-set (c .pre .0) _ (c .pre .1)
 
 pub set-mark-spec : {M : Type 1} → statement M
 set-mark-spec = tie.close (tie.spec slice-write-state same-length returns)

@@ -10,7 +10,7 @@ same-length : tie.Need-same-length
 same-length c = search needs
 
 returns : tie.Need-returns
-returns c = next-set (c .args .state .now) (c .args .next) (c .pre .0) (c .pre .1)
+returns c = next-set (c .pre .0) _ (c .pre .1)
 
 pub set-next-spec : {M : Type 1} → statement M
 set-next-spec = tie.close (tie.spec slice-write-state same-length returns)

@@ -8,7 +8,7 @@ shared-slice-read-result : tie.Need-shared-slice-read-result
 shared-slice-read-result c = search needs
 
 returns : tie.Need-returns
-returns c = sym (count-is (c .before .args .state .now))
+returns c = sym (count-is _)
 
 pub symbol-count-spec : {M : Type 1} → statement M
 symbol-count-spec = tie.close (tie.spec shared-slice-read-result returns)

@@ -15,7 +15,7 @@ same-length : tie.Need-same-length
 same-length c = search needs
 
 returns : tie.Need-returns
-returns c = define-full (c .before .before .before .before .before .args .state .now) (c .before .before .before .before .before .pre) (c .before .before .before .before .before .args .name) (c .before .before .find .result) (c .before .before .find .ensures) (c .before .before .before .before .before .args .value) (c .if1 .taken)
+returns c = define-full (c .before .before .before .before .before .pre) (c .before .before .find .ensures) (c .before .before .before .before .before .args .value) (c .if1 .taken)
 
 add-state : tie.Need-add-state
 add-state c = search needs
@@ -42,7 +42,7 @@ same-length-2 : tie.Need-same-length-2
 same-length-2 c = search needs
 
 returns-2 : tie.Need-returns-2
-returns-2 c = define-inside (c .before .before .before .before .before .before .args .state .now) (c .before .before .before .before .before .before .pre) (c .before .before .before .before .before .before .args .name) (c .before .before .before .find .result) (c .before .before .before .find .ensures) (c .before .before .before .before .before .before .args .value) (omega arith) (c .before .if1 .left) (c .if2 .taken)
+returns-2 c = define-inside (c .before .before .before .before .before .before .pre) (c .before .before .before .find .ensures) _ (omega arith) (c .before .if1 .left) (c .if2 .taken)
 
 add-state-4 : tie.Need-add-state-4
 add-state-4 c = search needs
@@ -54,7 +54,7 @@ same-length-3 : tie.Need-same-length-3
 same-length-3 c = search needs
 
 returns-3 : tie.Need-returns-3
-returns-3 c = define-behind (c .before .before .before .before .before .before .args .state .now) (c .before .before .before .before .before .before .pre) (c .before .before .before .before .before .before .args .name) (c .before .before .before .find .result) (c .before .before .before .find .ensures) (c .before .before .before .before .before .before .args .value) (omega arith) (c .before .if1 .left) (c .if2 .left)
+returns-3 c = define-behind (c .before .before .before .before .before .before .pre) (c .before .before .before .find .ensures) _ (omega arith) (c .before .if1 .left) (c .if2 .left)
 
 pub define-spec : {M : Type 1} → statement M
 define-spec =

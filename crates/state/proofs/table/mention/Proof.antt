@@ -13,13 +13,13 @@ same-length : tie.Need-same-length
 same-length c = search needs
 
 returns : tie.Need-returns
-returns c = mention-inside (c .before .before .before .before .before .args .state .now) (c .before .before .before .before .before .pre) (c .before .before .before .before .before .args .name) (c .before .before .find .result) (c .before .before .find .ensures) (c .if1 .taken)
+returns c = mention-inside (c .before .before .before .before .before .pre) (c .before .before .find .ensures) (c .if1 .taken)
 
 same-length-2 : tie.Need-same-length-2
 same-length-2 c = search needs
 
 returns-2 : tie.Need-returns-2
-returns-2 c = mention-full (c .before .before .before .before .before .before .args .state .now) (c .before .before .before .before .before .before .pre) (c .before .before .before .before .before .before .args .name) (c .before .before .before .find .result) (c .before .before .before .find .ensures) (c .before .if1 .left) (c .if2 .taken)
+returns-2 c = mention-full (c .before .before .before .before .before .before .pre) (c .before .before .before .find .ensures) (c .before .if1 .left) (c .if2 .taken)
 
 add-state : tie.Need-add-state
 add-state c = search needs
@@ -40,7 +40,7 @@ same-length-3 : tie.Need-same-length-3
 same-length-3 c = search needs
 
 returns-3 : tie.Need-returns-3
-returns-3 c = mention-behind (c .before .before .before .before .before .before .args .state .now) (c .before .before .before .before .before .before .pre) (c .before .before .before .before .before .before .args .name) (c .before .before .before .find .result) (c .before .before .before .find .ensures) (c .before .if1 .left) (c .if2 .left)
+returns-3 c = mention-behind (c .before .before .before .before .before .before .pre) (c .before .before .before .find .ensures) (c .before .if1 .left) (c .if2 .left)
 
 pub mention-spec : {M : Type 1} → statement M
 mention-spec =

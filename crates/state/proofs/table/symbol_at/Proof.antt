@@ -25,13 +25,13 @@ shared-slice-read-v : tie.Need-shared-slice-read-v
 shared-slice-read-v c = search needs
 
 returns : tie.Need-returns
-returns c = sym (listed-undefined (c .before .before .before .args .state .now) (c .before .before .before .pre .0) (c .before .before .before .args .i) (inside _ _ (c .before .before .before .pre .1)) (c .if1 .taken))
+returns c = sym (listed-undefined (c .before .before .before .pre .0) _ (inside _ _ (c .before .before .before .pre .1)) (c .if1 .taken))
 
 sub-t8 : tie.Need-sub-t8
-sub-t8 c = omega (arith, value-large (c .before .before .before .args .state .now) (c .before .before .before .pre .0) (c .before .before .before .args .i) (inside _ _ (c .before .before .before .pre .1)) (c .if1 .left))
+sub-t8 c = omega (arith, value-large (c .before .before .before .pre .0) _ (inside _ _ (c .before .before .before .pre .1)) (c .if1 .left))
 
 returns-2 : tie.Need-returns-2
-returns-2 c = sym (listed-defined (c .before .before .before .args .state .now) (c .before .before .before .pre .0) (c .before .before .before .args .i) (inside _ _ (c .before .before .before .pre .1)) (c .if1 .left))
+returns-2 c = sym (listed-defined (c .before .before .before .pre .0) _ (inside _ _ (c .before .before .before .pre .1)) (c .if1 .left))
 
 pub symbol-at-spec : {M : Type 1} → statement M
 symbol-at-spec =

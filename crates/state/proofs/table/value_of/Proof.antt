@@ -22,19 +22,19 @@ shared-slice-read-v c = search needs
 
 -- src/table.rt:125:9
 returns : tie.Need-returns
-returns c = sym (value-undefined (c .before .before .args .state .now) (c .before .before .pre .0) (c .before .before .args .i) (inside _ _ (c .before .before .pre .1)) (c .if1 .taken))
+returns c = sym (value-undefined (c .before .before .pre .0) _ (inside _ _ (c .before .before .pre .1)) (c .if1 .taken))
 
 -- src/table.rt:127:6
 sub-result : tie.Need-sub-result
-sub-result c = omega (arith, value-large (c .before .before .args .state .now) (c .before .before .pre .0) (c .before .before .args .i) (inside _ _ (c .before .before .pre .1)) (c .if1 .left))
+sub-result c = omega (arith, value-large (c .before .before .pre .0) _ (inside _ _ (c .before .before .pre .1)) (c .if1 .left))
 
 -- src/table.rt:127:5
 cast-result : tie.Need-cast-result
-cast-result c = omega (arith, value-small (c .before .before .args .state .now) (c .before .before .pre .0) (c .before .before .args .i) (inside _ _ (c .before .before .pre .1)))
+cast-result c = omega (arith, value-small (c .before .before .pre .0) _ (inside _ _ (c .before .before .pre .1)))
 
 -- src/table.rt:118:1
 returns-2 : tie.Need-returns-2
-returns-2 c = sym (value-defined (c .before .before .args .state .now) (c .before .before .pre .0) (c .before .before .args .i) (inside _ _ (c .before .before .pre .1)) (c .if1 .left))
+returns-2 c = sym (value-defined (c .before .before .pre .0) _ (inside _ _ (c .before .before .pre .1)) (c .if1 .left))
 
 pub value-of-spec : {M : Type 1} → statement M
 value-of-spec =

@@ -22,7 +22,7 @@ add-wanted c = omega arith
 
 -- src/words.rt:69:5
 loop-holds : tie.Need-loop-holds Inv-loop μ-loop
-loop-holds c = (refl, highest-all (c .args .state .now) (c .args .symbol))
+loop-holds c = (refl, highest-all _ _)
 
 -- src/words.rt:70:17
 sub-a : tie.Need-sub-a Inv-loop μ-loop

@@ -7,7 +7,7 @@ use Rattle.state.proofs.words.put_plain.Statement.{statement}
 use Rattle.state.proofs.words.put_plain.Tie as tie
 
 returns : tie.Need-returns
-returns c = word-past (c .before .args .state .now) (c .before .pre) (c .before .args .address) (plain (c .before .args .text)) (plain-sound _ (c .before .args .text) (omega arith)) (c .if1 .taken)
+returns c = word-past (c .before .pre) _ (plain _) (plain-sound _ _ (omega arith)) (c .if1 .taken)
 
 add-state : tie.Need-add-state
 add-state c = search needs
@@ -31,7 +31,7 @@ same-length : tie.Need-same-length
 same-length c = search needs
 
 returns-2 : tie.Need-returns-2
-returns-2 c = word-set (c .before .args .state .now) (c .before .pre) (c .before .args .address) (plain (c .before .args .text)) (plain-sound _ (c .before .args .text) (omega arith)) (c .if1 .left)
+returns-2 c = word-set (c .before .pre) _ (plain _) (plain-sound _ _ (omega arith)) (c .if1 .left)
 
 pub put-plain-spec : {M : Type 1} → statement M
 put-plain-spec =

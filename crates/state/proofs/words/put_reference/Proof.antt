@@ -7,7 +7,7 @@ use Rattle.state.proofs.words.put_reference.Statement.{statement}
 use Rattle.state.proofs.words.put_reference.Tie as tie
 
 returns : tie.Need-returns
-returns c = word-past (c .before .args .state .now) (c .before .pre .0) (c .before .args .address) (refers (c .before .args .text) (c .before .args .symbol)) (refers-sound _ (c .before .args .text) (c .before .args .symbol) (omega arith) (c .before .pre .1)) (c .if1 .taken)
+returns c = word-past (c .before .pre .0) _ (refers _ _) (refers-sound _ _ _ (omega arith) (c .before .pre .1)) (c .if1 .taken)
 
 add-state : tie.Need-add-state
 add-state c = search needs
@@ -34,7 +34,7 @@ same-length : tie.Need-same-length
 same-length c = search needs
 
 returns-2 : tie.Need-returns-2
-returns-2 c = word-set (c .before .args .state .now) (c .before .pre .0) (c .before .args .address) (refers (c .before .args .text) (c .before .args .symbol)) (refers-sound _ (c .before .args .text) (c .before .args .symbol) (omega arith) (c .before .pre .1)) (c .if1 .left)
+returns-2 c = word-set (c .before .pre .0) _ (refers _ _) (refers-sound _ _ _ (omega arith) (c .before .pre .1)) (c .if1 .left)
 
 pub put-reference-spec : {M : Type 1} → statement M
 put-reference-spec =

@@ -13,7 +13,7 @@ shared-slice-read-result : tie.Need-shared-slice-read-result
 shared-slice-read-result c = search needs
 
 returns : tie.Need-returns
-returns c = tag-is (c .before .args .state .now) (c .before .pre .0) (c .before .args .address) (c .before .pre .1)
+returns c = tag-is (c .before .pre .0) _ (c .before .pre .1)
 
 pub tag-spec : {M : Type 1} → statement M
 tag-spec = tie.close (tie.spec add-result mul-result shared-slice-read-result returns)
