@@ -1,11 +1,11 @@
-use borrow.Author.Needs.{needs}
+use native.Mathlib.Omega.{arith}
 use Rattle.soundness.proofs.SoundLaws.{refusal-none, refusal-length, refusal-damaged}
 use mathlib.Core.Path.{sym, _∙_}
 use Rattle.soundness.proofs.memory.refusal.Statement.{statement}
 use Rattle.soundness.proofs.memory.refusal.Tie as tie
 
 is-sound-requires : tie.Need-is-sound-requires
-is-sound-requires c κs = search needs
+is-sound-requires c κs = omega arith
 
 returns : tie.Need-returns
 returns c = refusal-none (c .before .before .before .args .state .now) (sym (c .before .is-sound .ensures) ∙ c .if1 .taken)

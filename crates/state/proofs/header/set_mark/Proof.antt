@@ -1,10 +1,11 @@
 use borrow.Author.Needs.{needs}
+use native.Mathlib.Omega.{arith}
 use Rattle.state.proofs.HeaderLaws.{mark-set}
 use Rattle.state.proofs.header.set_mark.Statement.{statement}
 use Rattle.state.proofs.header.set_mark.Tie as tie
 
 slice-write-state : tie.Need-slice-write-state
-slice-write-state c = search needs
+slice-write-state c = omega arith
 
 same-length : tie.Need-same-length
 same-length c = search needs

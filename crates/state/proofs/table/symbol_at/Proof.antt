@@ -1,4 +1,3 @@
-use borrow.Author.Needs.{needs}
 use Rattle.state.proofs.LayoutLaws.{inside}
 use Rattle.state.proofs.SymbolLaws.{listed-undefined, listed-defined, value-large}
 use mathlib.Core.Path.{sym}
@@ -7,22 +6,22 @@ use Rattle.state.proofs.table.symbol_at.Statement.{statement}
 use Rattle.state.proofs.table.symbol_at.Tie as tie
 
 add-name : tie.Need-add-name
-add-name c = search needs
+add-name c = omega arith
 
 mul-name : tie.Need-mul-name
-mul-name c = search needs
+mul-name c = omega arith
 
 shared-slice-read-name : tie.Need-shared-slice-read-name
-shared-slice-read-name c = search needs
+shared-slice-read-name c = omega arith
 
 add-v : tie.Need-add-v
-add-v c = search needs
+add-v c = omega arith
 
 mul-v : tie.Need-mul-v
-mul-v c = search needs
+mul-v c = omega arith
 
 shared-slice-read-v : tie.Need-shared-slice-read-v
-shared-slice-read-v c = search needs
+shared-slice-read-v c = omega arith
 
 returns : tie.Need-returns
 returns c = sym (listed-undefined (c .before .before .before .pre .0) _ (inside _ _ (c .before .before .before .pre .1)) (c .if1 .taken))

@@ -6,8 +6,6 @@ use mathlib.Core.Path.{_≡_, refl}
 use Prim.Native.Nat.{_+_, _-_}
 use Rattle.state.proofs.words.highest.Statement.{statement}
 use Rattle.state.proofs.words.highest.Tie as tie
-use Rattle.state.proofs.words.highest.Reads as reads
-use Rattle.state.proofs.words.highest.Lts as lts
 
 abbrev Inv-loop : tie.InvT-loop
 Inv-loop state symbol wanted i₀ i = (wanted ≡ 2 + symbol)
@@ -16,47 +14,36 @@ Inv-loop state symbol wanted i₀ i = (wanted ≡ 2 + symbol)
 abbrev μ-loop : tie.MeasureT-loop
 μ-loop state symbol wanted i₀ i = 4096 - i
 
--- src/words.rt:67:18
 add-wanted : tie.Need-add-wanted Inv-loop μ-loop
 add-wanted c = omega arith
 
--- src/words.rt:69:5
 loop-holds : tie.Need-loop-holds Inv-loop μ-loop
 loop-holds c = (refl, highest-all _ _)
 
--- src/words.rt:70:17
 sub-a : tie.Need-sub-a Inv-loop μ-loop
 sub-a c = omega arith
 
--- src/words.rt:71:18
 add-if1 : tie.Need-add-if1 Inv-loop μ-loop
 add-if1 c = omega arith
 
--- src/words.rt:71:12
 mul-if1 : tie.Need-mul-if1 Inv-loop μ-loop
 mul-if1 c = omega arith
 
--- src/words.rt:71:12
 shared-slice-read-if1 : tie.Need-shared-slice-read-if1 Inv-loop μ-loop
 shared-slice-read-if1 c = omega arith
 
--- src/words.rt:72:13
 returns : tie.Need-returns Inv-loop μ-loop
 returns c = omega (arith, highest-here (c .before .before .before .before .args .state .now) (c .before .before .before .before .args .symbol) (4095 - (c .before .before .before .loop .i)) (4096 - (c .before .before .before .loop .i)) (omega arith) (omega (arith, c .if1 .taken)))
 
--- src/words.rt:74:9
 add-i : tie.Need-add-i Inv-loop μ-loop
 add-i c = omega arith
 
--- src/words.rt:69:5
 loop-less : tie.Need-loop-less Inv-loop μ-loop
 loop-less c = omega arith
 
--- src/words.rt:69:5
 loop-again : tie.Need-loop-again Inv-loop μ-loop
 loop-again c = (omega arith, omega (arith, highest-lower (c .before .before .before .before .args .state .now) (c .before .before .before .before .args .symbol) (4095 - (c .before .before .before .loop .i)) (4096 - (c .before .before .before .loop .i)) (omega arith) (4096 - ((c .before .before .before .loop .i) + 1)) (omega arith) (omega (arith, c .if1 .left))))
 
--- src/words.rt:62:1
 returns-2 : tie.Need-returns-2 Inv-loop μ-loop
 returns-2 c = omega (arith, highest-none (c .before .before .args .state .now) (c .before .before .args .symbol) (4096 - c .before .loop .i) (omega arith))
 

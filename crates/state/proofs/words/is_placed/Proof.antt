@@ -1,4 +1,4 @@
-use borrow.Author.Needs.{needs}
+use native.Mathlib.Omega.{arith}
 use Rattle.state.proofs.WordLaws.{is-placed-at, is-placed-past}
 use mathlib.Core.Path.{sym}
 use Rattle.state.proofs.words.is_placed.Statement.{statement}
@@ -8,13 +8,13 @@ returns : tie.Need-returns
 returns c = sym (is-placed-past (c .before .pre) _ (c .if1 .taken))
 
 add-result : tie.Need-add-result
-add-result c = search needs
+add-result c = omega arith
 
 mul-result : tie.Need-mul-result
-mul-result c = search needs
+mul-result c = omega arith
 
 shared-slice-read-result : tie.Need-shared-slice-read-result
-shared-slice-read-result c = search needs
+shared-slice-read-result c = omega arith
 
 returns-2 : tie.Need-returns-2
 returns-2 c = sym (is-placed-at (c .before .before .pre) _ (c .before .if1 .left))
