@@ -1,6 +1,6 @@
 -- The tests on cells hold together exactly if the cells are the encoding of a sound state.
 use Prim.Native.Nat.{ℕ, _+_, _-_, _≤_, _<_}
-use mathlib.Core.Bool.{Bool, true, false, cond, not, _&&_, _||_}
+use mathlib.Core.Bool.{Bool, true, false, cond, _&&_}
 use mathlib.Core.List.{List, map}
 use mathlib.Core.Logic.{_≢_}
 use mathlib.Core.Path.{_≡_, refl, sym, ap, _∙_}
@@ -15,7 +15,7 @@ use Rattle.rules.specs.Text.{all, isPacked}
 use Rattle.rules.specs.State.{Symbol, Mark, unmarked, broken, frozen, unplaced, State, soundSymbol, differentNames, soundWord, sound}
 use Rattle.rules.specs.Calls.{wrongLength, damaged, holding}
 use Rattle.state.specs.Layout.{size, nameCell, valueCell, textCell, tagCell, markCell, encode, range, symbolIn, wordIn, symbolsFrom, wordsFrom, decode, soundCells, lent}
-use Rattle.state.specs.Good.{soundValue, Tidy, Good}
+use Rattle.state.specs.Good.{soundValue, Good}
 use Rattle.state.specs.Table.{noSymbol}
 use Rattle.state.proofs.BoolLaws.{both, first, second, same-test}
 use Rattle.state.proofs.ListLaws.{all-range, range-all, all-map, all-at}

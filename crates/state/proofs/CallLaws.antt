@@ -3,11 +3,11 @@ use Prim.Native.Nat.{ℕ, zero, suc, _+_, _-_, _≤_, _<_, max}
 use mathlib.Core.Bool.{Bool, true, false, cond, not, _&&_, _||_}
 use mathlib.Core.List.{List, [], _∷_}
 use mathlib.Core.Logic.{_≢_}
-use mathlib.Core.Path.{_≡_, refl, sym, ap, ap₂, _∙_}
+use mathlib.Core.Path.{_≡_, refl, sym, ap, _∙_}
 use native.Mathlib.Nat.{not-suc-le-zero, le-of-suc-le-suc, sub-zero}
 use native.Mathlib.Numerals.{add-one}
 use native.Mathlib.Omega.{arith}
-use borrow.Author.Tests.{ltb-true, ltb-false, lt-ltb, le-ltb, le-leb, lt-leb, leb-true, leb-false, eqb-true, eqb-false, eq-eqb, ne-eqb, not-true}
+use borrow.Author.Tests.{ltb-true, ltb-false, lt-ltb, le-ltb, le-leb, lt-leb, leb-true, leb-false, eqb-false, eq-eqb, ne-eqb, not-true}
 use lib.ListN.{length, getD}
 use lib.Dec.{eqb, leb, ltb, leb·suc-suc}
 use Rattle.rules.specs.Text.{any}
@@ -18,7 +18,7 @@ use Rattle.rules.specs.declared.answer.UndefinedAnswer.{UndefinedAnswer}
 use Rattle.state.specs.Good.{Tidy}
 use Rattle.state.specs.Table.{noSymbol, undefinedPlace}
 use Rattle.state.proofs.BoolLaws.{first, second, not-first, not-second}
-use Rattle.state.proofs.ListLaws.{put, length-put}
+use Rattle.state.proofs.ListLaws.{length-put}
 use Rattle.state.proofs.JoinLaws.{place-most, mention-known, mention-new}
 
 -- ---- the k-th undefined symbol

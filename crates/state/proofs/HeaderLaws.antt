@@ -6,12 +6,12 @@ use mathlib.Core.Logic.{_≢_}
 use mathlib.Core.Path.{_≡_, refl, ap, _∙_}
 use native.Mathlib.Omega.{arith}
 use borrow.Author.Tests.{eqb-true, eqb-false}
-use lib.ListN.{length, getD, set}
+use lib.ListN.{getD, set}
 use lib.Dec.{eqb}
-use Rattle.rules.specs.State.{Mark, unmarked, broken, frozen, State, state, marked}
+use Rattle.rules.specs.State.{Mark, unmarked, broken, frozen, marked}
 use Rattle.rules.specs.Calls.{shutBy}
 use Rattle.state.specs.Layout.{encode, decode, markCell, markOf}
-use Rattle.state.specs.Good.{Tidy, Good, Holds, withNext}
+use Rattle.state.specs.Good.{Good, Holds, withNext}
 use Rattle.state.proofs.LayoutLaws.{holds}
 
 pub next-set : {cells : List ℕ} → Good cells → (n : ℕ) → n ≤ 4096 → Holds (set cells 1 n) (withNext n (decode cells))

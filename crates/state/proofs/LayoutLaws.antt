@@ -1,17 +1,17 @@
 -- A state and its cells: each cell of an encoding, and that decoding gives the state back.
 use Prim.Native.Nat.{ℕ, _+_, _-_, _≤_, _<_}
 use mathlib.Core.Bool.{Bool, true, false, cond, not, _&&_, _||_}
-use mathlib.Core.List.{List, [], _∷_, _++_, map}
+use mathlib.Core.List.{List, map}
 use mathlib.Core.Path.{_≡_, refl, sym, ap, ap₂, subst, _∙_}
 use native.Mathlib.Omega.{arith}
-use borrow.Author.Tests.{leb-true, eqb-true, ne-eqb}
+use borrow.Author.Tests.{eqb-true, ne-eqb}
 use lib.ListN.{length, getD, length-map, List·getD-map, List·getD-eq-default}
 use lib.Dec.{eqb, leb}
 use Rattle.rules.specs.Text.{all}
 use Rattle.rules.specs.State.{Symbol, symbol, Word, unplaced, plain, refers, Mark, unmarked, broken, frozen, State, state}
-use Rattle.state.specs.Layout.{size, nameCell, valueCell, textCell, tagCell, markCell, padded, header, names, values, texts, tags, encode, range, symbolOf, wordOf, markOf, symbolIn, wordIn, symbolsFrom, wordsFrom, decode}
+use Rattle.state.specs.Layout.{size, nameCell, valueCell, textCell, tagCell, markCell, padded, header, names, values, texts, tags, encode, symbolOf, wordOf, markOf, symbolIn, wordIn, symbolsFrom, wordsFrom, decode}
 use Rattle.state.specs.Good.{soundValue, Tidy, Good, Holds}
-use Rattle.state.proofs.BoolLaws.{both, first, second}
+use Rattle.state.proofs.BoolLaws.{second}
 use Rattle.state.proofs.ListLaws.{length-padded, getD-padded, length-map-range, getD-map-range, map-range, all-at}
 use Rattle.state.proofs.RegionLaws.{length-flat, at-name, at-value, at-text, at-tag}
 

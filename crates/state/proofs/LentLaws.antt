@@ -1,6 +1,6 @@
 -- Sound cells: they are good, they are the encoding of what they decode to, and a sound state's encoding is sound.
-use Prim.Native.Nat.{ℕ, _≤_}
-use mathlib.Core.Bool.{Bool, true, false, cond, _&&_, _||_, false≢true}
+use Prim.Native.Nat.{ℕ}
+use mathlib.Core.Bool.{true, false, _&&_, false≢true}
 use mathlib.Core.List.{List, [], _∷_}
 use mathlib.Core.Logic.{_≢_}
 use mathlib.Core.Path.{_≡_, refl, sym, ap, ap₂, _∙_}
@@ -9,13 +9,13 @@ use lib.ListN.{length}
 use lib.Dec.{eqb, leb}
 use Rattle.rules.specs.Text.{all, isPacked}
 use Rattle.rules.specs.Line.{sameText}
-use Rattle.rules.specs.State.{Symbol, State, soundSymbol, differentNames, soundWord, sound}
-use Rattle.rules.specs.Calls.{Lent, wrongLength, damaged, holding, Left, now}
+use Rattle.rules.specs.State.{State, soundSymbol, differentNames, soundWord, sound}
+use Rattle.rules.specs.Calls.{wrongLength, damaged, holding, now}
 use Rattle.state.specs.Layout.{size, encode, decode, soundCells, lent, cellsAfter}
 use Rattle.state.specs.Good.{soundValue, Tidy, Good, Holds}
 use Rattle.state.proofs.BoolLaws.{both, first, second}
 use Rattle.state.proofs.ListLaws.{all-weaken}
-use Rattle.state.proofs.LayoutLaws.{decode-encode, encode-long, holds-encode, holds}
+use Rattle.state.proofs.LayoutLaws.{decode-encode, encode-long, holds}
 
 -- ---- lists that a test finds alike
 

@@ -1,18 +1,18 @@
 -- The table of symbols in cells: the loops that go through it.
-use Prim.Native.Nat.{ℕ, suc, _+_, _-_, _≤_, _<_}
-use mathlib.Core.Bool.{Bool, true, false, cond, not, _&&_, _||_}
+use Prim.Native.Nat.{ℕ, _+_, _-_, _≤_, _<_}
+use mathlib.Core.Bool.{true, _||_}
 use mathlib.Core.List.{List, [], _∷_, map}
 use mathlib.Core.Logic.{_≢_}
-use mathlib.Core.Path.{_≡_, refl, sym, ap, _∙_}
+use mathlib.Core.Path.{_≡_, sym, ap, _∙_}
 use native.Mathlib.Nat.{sub-zero}
 use native.Mathlib.Omega.{arith}
 use borrow.Author.Tests.{eq-eqb, ne-eqb, leb-true}
 use lib.ListN.{length, getD, List·getD-map}
 use lib.Dec.{eqb, leb}
-use Rattle.rules.specs.State.{Symbol, symbol, placeOf, undefinedOnly}
+use Rattle.rules.specs.State.{placeOf, undefinedOnly}
 use Rattle.rules.specs.Image.{valueOf}
-use Rattle.state.specs.Layout.{nameCell, valueCell, encode, range, symbolOf, symbolIn, symbolsFrom, decode}
-use Rattle.state.specs.Good.{soundValue, Tidy, Good}
+use Rattle.state.specs.Layout.{valueCell, symbolIn, symbolsFrom, decode}
+use Rattle.state.specs.Good.{soundValue, Good}
 use Rattle.state.specs.Table.{noSymbol, listed, undefinedPlace}
 use Rattle.state.proofs.BoolLaws.{first}
 use Rattle.state.proofs.ListLaws.{range-step, range-end, all-at}

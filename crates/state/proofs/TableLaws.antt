@@ -1,16 +1,16 @@
 -- The table of symbols in cells: what a store of a symbol makes of good memory.
-use Prim.Native.Nat.{ℕ, _+_, _≤_, _<_, max}
-use mathlib.Core.Bool.{Bool, true, false, cond, not, _&&_, _||_}
-use mathlib.Core.List.{List, [], _∷_, _++_, map}
+use Prim.Native.Nat.{ℕ, _+_, _≤_, _<_}
+use mathlib.Core.Bool.{Bool, true, false, _&&_}
+use mathlib.Core.List.{List, [], _∷_, map}
 use mathlib.Core.Logic.{_≢_}
 use mathlib.Core.Path.{_≡_, refl, sym, ap, subst, _∙_}
 use native.Mathlib.Omega.{arith}
 use borrow.Author.Tests.{le-leb, lt-leb}
-use lib.ListN.{length, getD, set, length-map, length-set}
+use lib.ListN.{length, getD, set, length-map}
 use lib.Seq.{set-getD, getD-set-other}
-use lib.Dec.{eqb, leb}
+use lib.Dec.{leb}
 use Rattle.rules.specs.Text.{any}
-use Rattle.rules.specs.State.{Symbol, symbol, nameIs, placeOf, State}
+use Rattle.rules.specs.State.{Symbol, symbol, nameIs, State}
 use Rattle.rules.specs.Placing.{define, mention}
 use Rattle.rules.specs.Calls.{withSymbols}
 use Rattle.state.specs.Layout.{nameCell, valueCell, markCell, padded, header, names, values, texts, tags, encode, symbolIn, decode}
@@ -20,7 +20,7 @@ use Rattle.state.proofs.ListLaws.{put, length-put, map-put, set-padded}
 use Rattle.state.proofs.RegionLaws.{flat, set-name, set-value}
 use Rattle.state.proofs.LayoutLaws.{table-long, holds, count-is, symbol-is, unused-value}
 use Rattle.state.proofs.BoolLaws.{both}
-use Rattle.state.proofs.JoinLaws.{define-put, mention-known, mention-new, put-tidy, place-most, at-place, at-no-place}
+use Rattle.state.proofs.JoinLaws.{define-put, mention-known, mention-new, put-tidy, at-place, at-no-place}
 
 -- ---- a symbol stored at a place of the table, or just behind it
 

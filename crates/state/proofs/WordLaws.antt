@@ -1,19 +1,17 @@
 -- The program words in cells.
-use Prim.Native.Nat.{ℕ, zero, suc, _+_, _-_, _^_, _≤_, _<_}
-use mathlib.Core.Bool.{Bool, true, false, cond, not, _&&_}
+use Prim.Native.Nat.{ℕ, _+_, _-_, _^_, _≤_, _<_}
+use mathlib.Core.Bool.{Bool, true, false, cond, not}
 use mathlib.Core.List.{List, [], _∷_, _++_, map}
 use mathlib.Core.Logic.{_≢_}
-use mathlib.Core.Path.{_≡_, refl, sym, ap, ap₂, subst, _∙_}
-use native.Mathlib.Numerals.{add-one}
+use mathlib.Core.Path.{_≡_, refl, sym, ap, ap₂, _∙_}
 use native.Mathlib.Omega.{arith}
 use borrow.Author.Tests.{lt-ltb, ltb-true, eq-eqb, ne-eqb, eqb-true, eqb-false}
 use lib.ListN.{length, getD, set, length-map, length-set, List·getD-eq-default}
 use lib.Seq.{set-out}
 use lib.Dec.{eqb, ltb}
-use Rattle.rules.specs.Text.{all}
 use Rattle.rules.specs.State.{Word, unplaced, plain, refers, isPlaced, refersTo, highestFrom, highest, soundWord, State}
 use Rattle.state.specs.Layout.{nameCell, valueCell, textCell, tagCell, header, names, values, texts, tags, encode, range, wordOf, wordIn, wordsFrom, decode}
-use Rattle.state.specs.Good.{Tidy, Good, Holds, withWords}
+use Rattle.state.specs.Good.{Good, Holds, withWords}
 use Rattle.state.specs.Words.{Tagged}
 use Rattle.state.proofs.BoolLaws.{both, second, same-test}
 use Rattle.state.proofs.ListLaws.{map-set, map-last, all-at, all-set, range-last, range-end, length-map-range}

@@ -3,7 +3,7 @@ ghost use Prim.Native.Nat.{_≤_, _<_};
 ghost use mathlib.Core.Path.{_≡_};
 ghost use lib.ListN.{length, getD, set};
 ghost use Rattle.rules.specs.State.{unplaced, plain, refers, isPlaced, highest as highest-in};
-ghost use Rattle.state.specs.Layout.{decode, textCell, tagCell};
+ghost use Rattle.state.specs.Layout.{decode, textCell};
 ghost use Rattle.state.specs.Good.{Good, Holds, withWords};
 ghost use Rattle.state.specs.Words.{Tagged};
 

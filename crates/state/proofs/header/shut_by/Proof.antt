@@ -1,5 +1,4 @@
 use borrow.Author.Needs.{needs}
-use native.Mathlib.Omega.{arith}
 use borrow.Author.Tests.{eq-eqb, ne-eqb}
 use Rattle.state.proofs.HeaderLaws.{shut-is}
 use Rattle.state.proofs.header.shut_by.Statement.{statement}
