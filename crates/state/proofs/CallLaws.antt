@@ -1,5 +1,5 @@
 -- What FORCE and UNDEFINED are defined by, in the words of the functions that serve them.
-use Prim.Native.Nat.{ℕ, zero, suc, _+_, _-_, _≤_, _<_, max}
+use Prim.Native.Nat.{ℕ, zero, suc, _+_, _-_, _≤_, _<_}
 use mathlib.Core.Bool.{Bool, true, false, cond, not, _&&_, _||_}
 use mathlib.Core.List.{List, [], _∷_}
 use mathlib.Core.Logic.{_≢_}
@@ -11,15 +11,14 @@ use borrow.Author.Tests.{ltb-true, ltb-false, lt-ltb, le-ltb, le-leb, lt-leb, le
 use lib.ListN.{length, getD}
 use lib.Dec.{eqb, leb, ltb, leb·suc-suc}
 use Rattle.rules.specs.Text.{any}
-use Rattle.rules.specs.State.{Symbol, symbol, nameIs, isSymbol, placeOf, undefinedOnly, differentNames, highest, State}
+use Rattle.rules.specs.State.{Symbol, nameIs, isSymbol, placeOf, undefinedOnly, differentNames, highest, State}
 use Rattle.rules.specs.Placing.{mention}
 use Rattle.rules.specs.Calls.{bit, undefinedAt, undefinedIs, undefinedNone}
 use Rattle.rules.specs.declared.answer.UndefinedAnswer.{UndefinedAnswer}
 use Rattle.state.specs.Good.{Tidy}
 use Rattle.state.specs.Table.{noSymbol, undefinedPlace}
 use Rattle.state.proofs.BoolLaws.{first, second, not-first, not-second}
-use Rattle.state.proofs.ListLaws.{length-put}
-use Rattle.state.proofs.JoinLaws.{place-most, mention-known, mention-new}
+use Rattle.state.proofs.JoinLaws.{place-most, mention-known, mention-length}
 
 -- ---- the k-th undefined symbol
 
@@ -136,9 +135,6 @@ force-joins {A} x t there full joined few same =
         rw (old, le-leb (length t) 256 few) (same old)
     go false true p q =
         let off = ltb-false (placeOf x t) (length t) p in
-        let e : length (mention x t) ≡ max (length t) (placeOf x t + 1) = ap length (mention-new x t off) ∙ length-put (placeOf x t) (symbol x 0 false) t (place-most x t) in
-        rw (lt-leb (length (mention x t)) 256 (omega (arith, leb-true 256 (length t) q)))
+        rw (lt-leb (length (mention x t)) 256 (omega (arith, mention-length x t, leb-true 256 (length t) q)))
     go false false p q =
-        let off = ltb-false (placeOf x t) (length t) p in
-        let e : length (mention x t) ≡ max (length t) (placeOf x t + 1) = ap length (mention-new x t off) ∙ length-put (placeOf x t) (symbol x 0 false) t (place-most x t) in
-        rw (le-leb (length (mention x t)) 256 (omega (arith, place-most x t, leb-false 256 (length t) q)))
+        rw (le-leb (length (mention x t)) 256 (omega (arith, mention-length x t, place-most x t, leb-false 256 (length t) q)))

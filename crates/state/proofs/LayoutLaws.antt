@@ -11,13 +11,10 @@ use Rattle.rules.specs.Text.{all}
 use Rattle.rules.specs.State.{Symbol, symbol, Word, unplaced, plain, refers, Mark, unmarked, broken, frozen, State, state}
 use Rattle.state.specs.Layout.{size, nameCell, valueCell, textCell, tagCell, markCell, padded, header, names, values, texts, tags, encode, symbolOf, wordOf, markOf, symbolIn, wordIn, symbolsFrom, wordsFrom, decode}
 use Rattle.state.specs.Good.{soundValue, Tidy, Good, Holds}
+use Rattle.state.specs.Table.{noSymbol}
 use Rattle.state.proofs.BoolLaws.{second}
 use Rattle.state.proofs.ListLaws.{length-padded, getD-padded, length-map-range, getD-map-range, map-range, all-at}
 use Rattle.state.proofs.RegionLaws.{length-flat, at-name, at-value, at-text, at-tag}
-
--- no symbol, whose cells are 0
-abbrev pub noSymbol : Symbol
-noSymbol = symbol 0 0 false
 
 -- ---- the cells of an encoding
 

@@ -41,11 +41,6 @@ module _ {A : Type 0} where
       let e : length (put i a l) ≡ max (length l) (i + 1) = length-put i a l (le-of-suc-le-suc h) in
       omega arith
 
-  pub put-inside : (i : ℕ) (a : A) (l : List A) → i < length l → put i a l ≡ set l i a
-  put-inside i a [] h = absurd (not-suc-le-zero h)
-  put-inside zero a (x ∷ l) h = refl
-  put-inside (suc i) a (x ∷ l) h = ap (λ (r : List A). x ∷ r) (put-inside i a l (le-of-suc-le-suc h))
-
 pub map-put : {A B : Type 0} (f : A → B) (i : ℕ) (a : A) (l : List A) → map f (put i a l) ≡ put i (f a) (map f l)
 map-put f zero a [] = refl
 map-put f (suc i) a [] = refl

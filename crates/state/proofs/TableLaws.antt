@@ -18,7 +18,7 @@ use Rattle.state.specs.Good.{soundValue, Tidy, Good, Holds}
 use Rattle.state.specs.Table.{noSymbol, Place, Joined}
 use Rattle.state.proofs.ListLaws.{put, length-put, map-put, set-padded}
 use Rattle.state.proofs.RegionLaws.{flat, set-name, set-value}
-use Rattle.state.proofs.LayoutLaws.{table-long, holds, count-is, symbol-is, unused-value}
+use Rattle.state.proofs.LayoutLaws.{table-long, holds, good-holds, count-is, symbol-is, unused-value}
 use Rattle.state.proofs.BoolLaws.{both}
 use Rattle.state.proofs.JoinLaws.{define-put, mention-known, mention-new, put-tidy, at-place, at-no-place}
 
@@ -101,7 +101,7 @@ module _ {cells : List ℕ} (g : Good cells) {x i : ℕ} (p : Place x (decode ce
   put-full : (a : Symbol) → i ≡ 256 → Joined (put i a t) (decode cells) false cells
   put-full a e =
       joined-no (put i a t) (decode cells) cells (omega (arith, length-put i a t (p .most)))
-      (record { good = g; is = refl })
+      (good-holds g)
 
   -- ---- in the words of the code
 
@@ -131,7 +131,7 @@ module _ {cells : List ℕ} (g : Good cells) {x i : ℕ} (p : Place x (decode ce
   pub mention-inside : i < getD cells 0 0 → Joined (mention x t) (decode cells) true cells
   mention-inside b =
       rw (mention-known x t (omega (arith, p .is, count-is cells)))
-      (joined-yes t (decode cells) cells (g .tidy .few) (record { good = g; is = refl }))
+      (joined-yes t (decode cells) cells (g .tidy .few) (good-holds g))
 
   module _ (b : getD cells 0 0 ≤ i) where
     as-mentioned : (r : Bool) (after : List ℕ) → Joined (put i (symbol x 0 false) t) (decode cells) r after → Joined (mention x t) (decode cells) r after

@@ -16,7 +16,7 @@ use Rattle.state.specs.Words.{Tagged}
 use Rattle.state.proofs.BoolLaws.{both, second, same-test}
 use Rattle.state.proofs.ListLaws.{map-set, map-last, all-at, all-set, range-last, range-end, length-map-range}
 use Rattle.state.proofs.RegionLaws.{flat, set-text, set-tag}
-use Rattle.state.proofs.LayoutLaws.{table-long, holds, word-is, encode-text, encode-tag}
+use Rattle.state.proofs.LayoutLaws.{table-long, holds, good-holds, word-is, encode-text, encode-tag}
 
 -- ---- reading
 
@@ -68,7 +68,7 @@ module _ {cells : List ℕ} (g : Good cells) (a : ℕ) where
     pub word-past : 4096 ≤ a → Holds cells after
     word-past h =
         rw (set-out (decode cells .words) a w (omega (arith, g .tidy .full)))
-        (record { good = g; is = refl })
+        (good-holds g)
 
     stored : (s : State) → length (s .symbols) ≤ 256 → length (s .words) ≡ 4096 → a < 4096 → set (set (encode s) (516 + a) (textCell w)) (4612 + a) (tagCell w) ≡ encode (withWords (set (s .words) a w) s)
     unfolding encode
