@@ -1,4 +1,8 @@
 // The table of symbols.
+use crate::layout::DEFINED;
+use crate::layout::MOST_SYMBOLS;
+use crate::layout::NAMES;
+use crate::layout::VALUES;
 ghost use Prim.Native.Nat.{_<_};
 ghost use mathlib.Core.Path.{_≡_};
 ghost use lib.ListN.{length, getD};
@@ -17,7 +21,7 @@ pub fn find(state: &[u64], name: u64) -> usize
     let n = state[0] as usize;
     let mut i = 0;
     while i < n {
-        if state[4 + i] == name {
+        if state[NAMES + i] == name {
             return i;
         }
         i += 1;
@@ -32,7 +36,7 @@ pub fn is_defined(state: &[u64], name: u64) -> bool
     let i = find(state, name);
     let n = state[0] as usize;
     if i < n {
-        return state[260 + i] != 0;
+        return state[VALUES + i] != 0;
     }
     false
 }
@@ -44,7 +48,7 @@ pub fn is_undefined(state: &[u64], name: u64) -> bool
     let i = find(state, name);
     let n = state[0] as usize;
     if i < n {
-        return state[260 + i] == 0;
+        return state[VALUES + i] == 0;
     }
     false
 }
@@ -56,11 +60,11 @@ pub fn define(state: &mut [u64], name: u64, value: u16) -> bool
 {
     let i = find(state, name);
     let n = state[0] as usize;
-    if i == 256 {
+    if i == MOST_SYMBOLS {
         return false;
     }
-    state[4 + i] = name;
-    state[260 + i] = value as u64 + 65536;
+    state[NAMES + i] = name;
+    state[VALUES + i] = value as u64 + DEFINED;
     if i < n {
         return true;
     }
@@ -78,10 +82,10 @@ pub fn mention(state: &mut [u64], name: u64) -> bool
     if at < n {
         return true;
     }
-    if at == 256 {
+    if at == MOST_SYMBOLS {
         return false;
     }
-    state[4 + at] = name;
+    state[NAMES + at] = name;
     state[0] = at as u64 + 1;
     true
 }
@@ -98,8 +102,8 @@ pub fn symbol_at(state: &[u64], i: usize) -> Listed
     requires { ⌜ i < length (decode (now state) .symbols) ⌝ }
     ensures { λ r. ⌜ r ≡ listed (getD (decode (now (state .entry)) .symbols) i noSymbol) ⌝ }
 {
-    let name = state[4 + i];
-    let v = state[260 + i];
+    let name = state[NAMES + i];
+    let v = state[VALUES + i];
     if v == 0 {
         return Listed {
             name,
@@ -109,7 +113,7 @@ pub fn symbol_at(state: &[u64], i: usize) -> Listed
     }
     Listed {
         name,
-        value: v - 65536,
+        value: v - DEFINED,
         defined: 1,
     }
 }
@@ -120,11 +124,11 @@ pub fn value_of(state: &[u64], i: usize) -> u16
     requires { ⌜ i < length (decode (now state) .symbols) ⌝ }
     ensures { λ r. ⌜ r ≡ valueOf (decode (now (state .entry)) .symbols) i ⌝ }
 {
-    let v = state[260 + i];
+    let v = state[VALUES + i];
     if v == 0 {
         return 0;
     }
-    (v - 65536) as u16
+    (v - DEFINED) as u16
 }
 
 pub fn undefined_count(state: &[u64]) -> usize
@@ -135,7 +139,7 @@ pub fn undefined_count(state: &[u64]) -> usize
     let mut found = 0;
     let mut i = 0;
     while i < n {
-        if state[260 + i] == 0 {
+        if state[VALUES + i] == 0 {
             found += 1;
         }
         i += 1;
@@ -152,7 +156,7 @@ pub fn undefined_place(state: &[u64], k: u64) -> usize
     let mut more = k;
     let mut i = 0;
     while i < n {
-        if state[260 + i] == 0 {
+        if state[VALUES + i] == 0 {
             if more == 0 {
                 return i;
             }
