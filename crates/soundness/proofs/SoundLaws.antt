@@ -14,7 +14,7 @@ use mir.Val.{Fits}
 use Rattle.rules.specs.Text.{all, isPacked}
 use Rattle.rules.specs.State.{Symbol, Mark, unmarked, broken, frozen, unplaced, State, soundSymbol, differentNames, soundWord, sound}
 use Rattle.rules.specs.Calls.{wrongLength, damaged, holding}
-use Rattle.state.specs.Layout.{size, nameCell, valueCell, textCell, tagCell, markCell, encode, range, symbolIn, wordIn, symbolsFrom, wordsFrom, decode, soundCells, lent}
+use Rattle.state.specs.Layout.{size, nameCell, valueCell, textCell, tagCell, markCell, encode, range, symbolIn, wordIn, symbolsFrom, wordsBelow, decode, soundCells, lent}
 use Rattle.state.specs.Good.{soundValue, Good}
 use Rattle.state.specs.Table.{noSymbol}
 use Rattle.state.proofs.BoolLaws.{both, first, second, same-test}
@@ -140,7 +140,7 @@ module _ (cells : List ℕ) where
     different = names-differ cells ∙ differ
 
     all-words : all (soundWord n) (d .words) ≡ true
-    unfolding decode wordsFrom
+    unfolding decode wordsBelow
     all-words =
         all-map (soundWord n) (wordIn cells) (range 0 4096)
         ∙ range-all (λ a. soundWord n (wordIn cells a)) 0 4096

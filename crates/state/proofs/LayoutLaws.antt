@@ -9,7 +9,7 @@ use lib.ListN.{length, getD, length-map, List·getD-map, List·getD-eq-default}
 use lib.Dec.{eqb, leb}
 use Rattle.rules.specs.Text.{all}
 use Rattle.rules.specs.State.{Symbol, symbol, Word, unplaced, plain, refers, Mark, unmarked, broken, frozen, State, state}
-use Rattle.state.specs.Layout.{size, nameCell, valueCell, textCell, tagCell, markCell, padded, header, names, values, texts, tags, encode, symbolOf, wordOf, markOf, symbolIn, wordIn, symbolsFrom, wordsFrom, decode}
+use Rattle.state.specs.Layout.{size, nameCell, valueCell, textCell, tagCell, markCell, padded, header, names, values, texts, tags, encode, symbolOf, wordOf, markOf, symbolIn, wordIn, symbolsFrom, wordsBelow, decode}
 use Rattle.state.specs.Good.{soundValue, Tidy, Good, Holds}
 use Rattle.state.specs.Table.{noSymbol}
 use Rattle.state.proofs.BoolLaws.{second}
@@ -93,8 +93,8 @@ module _ (s : State) (few : length (s .symbols) ≤ 256) (full : length (s .word
       (encode-value s few k (omega arith) ∙ List·getD-map valueCell (s .symbols) k noSymbol)
       ∙ symbol-back (getD (s .symbols) k noSymbol) (all-at soundValue (s .symbols) noSymbol valued k h))
 
-  words-back : wordsFrom (encode s) 0 ≡ s .words
-  unfolding wordsFrom
+  words-back : wordsBelow (encode s) 4096 ≡ s .words
+  unfolding wordsBelow
   words-back =
       map-range (wordIn (encode s)) (s .words) 4096 unplaced (sym full)
       (λ k h. ap₂ wordOf (encode-text s few full k h) (encode-tag s few full k) ∙ word-back (getD (s .words) k unplaced))
@@ -143,7 +143,7 @@ pub inside : (cells : List ℕ) (i : ℕ) → i < length (decode cells .symbols)
 inside cells i h = omega (arith, count-is cells)
 
 pub words-long : (cells : List ℕ) → length (decode cells .words) ≡ 4096
-unfolding decode wordsFrom
+unfolding decode wordsBelow
 words-long cells = length-map-range (wordIn cells) 0 4096
 
 pub symbol-is : (cells : List ℕ) (i : ℕ) → i < getD cells 0 0 → getD (decode cells .symbols) i noSymbol ≡ symbolIn cells i
@@ -151,7 +151,7 @@ unfolding decode symbolsFrom
 symbol-is cells i h = getD-map-range (symbolIn cells) (getD cells 0 0) i noSymbol h
 
 pub word-is : (cells : List ℕ) (a : ℕ) → a < 4096 → getD (decode cells .words) a unplaced ≡ wordIn cells a
-unfolding decode wordsFrom
+unfolding decode wordsBelow
 word-is cells a h = getD-map-range (wordIn cells) 4096 a unplaced h
 
 -- the cells behind the last symbol's

@@ -104,12 +104,17 @@ unfolding lent
 lent-holding cells h e = rw (eq-eqb _ _ h, e)
 
 -- a sound state's encoding is sound cells, and holds it
+pub encode-sound : (s : State) → sound s ≡ true → soundCells (encode s) ≡ true
+encode-sound s e =
+    let y = sound-tidy s e in
+    let back : decode (encode s) ≡ s = decode-encode s (y .few) (y .full) (y .values) in
+    cells-sound (encode s) (ap encode (sym back)) (ap sound back ∙ e)
+
 pub lent-encode : (s : State) → sound s ≡ true → lent (encode s) ≡ holding s
 lent-encode s e =
     let y = sound-tidy s e in
-    let back : decode (encode s) ≡ s = decode-encode s (y .few) (y .full) (y .values) in
-    lent-holding (encode s) (encode-long s (y .few) (y .full)) (cells-sound (encode s) (ap encode (sym back)) (ap sound back ∙ e))
-    ∙ ap holding back
+    lent-holding (encode s) (encode-long s (y .few) (y .full)) (encode-sound s e)
+    ∙ ap holding (decode-encode s (y .few) (y .full) (y .values))
 
 -- ---- what is left
 

@@ -1,6 +1,6 @@
 -- The table of symbols in cells: what a store of a symbol makes of good memory.
 use Prim.Native.Nat.{ℕ, _+_, _≤_, _<_}
-use mathlib.Core.Bool.{Bool, true, false, _&&_}
+use mathlib.Core.Bool.{Bool, true, false, cond, _&&_}
 use mathlib.Core.List.{List, [], _∷_, map}
 use mathlib.Core.Logic.{_≢_}
 use mathlib.Core.Path.{_≡_, refl, sym, ap, subst, _∙_}
@@ -68,6 +68,15 @@ joined-no : (t : List Symbol) (s : State) (cells : List ℕ) → 256 < length t 
 joined-no t s cells h k =
     let e : leb (length t) 256 ≡ false = lt-leb (length t) 256 h in
     record { room = sym e; holds = rw e k }
+
+-- for callers: the two answers
+pub joined-holds : {t : List Symbol} {s : State} {cells : List ℕ} → Joined t s true cells → Holds cells (withSymbols t s)
+joined-holds {t} {s} {cells} j =
+    subst (λ (b : Bool). Holds cells (cond b (withSymbols t s) s)) (sym (j .room)) (j .holds)
+
+pub joined-kept : {t : List Symbol} {s : State} {cells : List ℕ} → Joined t s false cells → Holds cells s
+joined-kept {t} {s} {cells} j =
+    subst (λ (b : Bool). Holds cells (cond b (withSymbols t s) s)) (sym (j .room)) (j .holds)
 
 module _ {cells : List ℕ} (g : Good cells) {x i : ℕ} (p : Place x (decode cells .symbols) i) where
   abbrev t : List Symbol

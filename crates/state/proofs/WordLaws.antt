@@ -10,7 +10,7 @@ use lib.ListN.{length, getD, set, length-map, length-set, List·getD-eq-default}
 use lib.Seq.{set-out}
 use lib.Dec.{eqb, ltb}
 use Rattle.rules.specs.State.{Word, unplaced, plain, refers, isPlaced, refersTo, highestFrom, highest, soundWord, State}
-use Rattle.state.specs.Layout.{nameCell, valueCell, textCell, tagCell, header, names, values, texts, tags, encode, range, wordOf, wordIn, wordsFrom, decode}
+use Rattle.state.specs.Layout.{nameCell, valueCell, textCell, tagCell, header, names, values, texts, tags, encode, range, wordOf, wordIn, wordsBelow, decode}
 use Rattle.state.specs.Good.{Good, Holds, withWords}
 use Rattle.state.specs.Words.{Tagged}
 use Rattle.state.proofs.BoolLaws.{both, second, same-test}
@@ -105,10 +105,6 @@ refers-sound n x i h b = both (ltb x (2 ^ 64)) (ltb i n) (lt-ltb x (2 ^ 64) h) (
 
 -- ---- the highest reference, from the top down
 
--- the words below address a
-unfoldable pub wordsBelow : List ℕ → ℕ → List Word
-wordsBelow cells a = map (wordIn cells) (range 0 a)
-
 highest-last : (i from best : ℕ) (l : List Word) (w : Word) → highestFrom i from best (l ++ (w ∷ [])) ≡ cond (refersTo i w) (from + length l) (highestFrom i from best l)
 unfolding highestFrom
 highest-last i from best [] w = ap (λ (k : ℕ). cond (refersTo i w) k best) (omega arith)
@@ -153,7 +149,7 @@ module _ (cells : List ℕ) (i a k : ℕ) (e : k ≡ a + 1) where
   highest-lower j d h = ap (λ (j : ℕ). highest i (wordsBelow cells j)) d ∙ sym (look ∙ rw (ne-eqb _ _ h))
 
 pub highest-all : (cells : List ℕ) (i : ℕ) → highest i (wordsBelow cells 4096) ≡ highest i (decode cells .words)
-unfolding wordsBelow decode wordsFrom
+unfolding decode
 highest-all cells i = refl
 
 pub highest-none : (cells : List ℕ) (i a : ℕ) → a ≤ 0 → highest i (wordsBelow cells a) ≡ 65535

@@ -1,5 +1,5 @@
-use Rattle.state.proofs.WordLaws.{wordsBelow, highest-all, highest-here, highest-lower, highest-none}
-use Rattle.state.specs.Layout.{decode}
+use Rattle.state.proofs.WordLaws.{highest-all, highest-here, highest-lower, highest-none}
+use Rattle.state.specs.Layout.{wordsBelow, decode}
 use Rattle.rules.specs.State.{highest}
 use native.Mathlib.Omega.{arith}
 use mathlib.Core.Path.{_≡_, refl}
