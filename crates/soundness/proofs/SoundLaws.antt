@@ -170,23 +170,21 @@ module _ (cells : List ℕ) where
         let spare : getD cells 3 0 ≡ 0 = ap (λ (l : List ℕ). getD l 3 0) (g .encoded) in
         rw (le-leb n 256 (g .few), le-leb (getD cells 1 0) 4096 (g .low), le-leb (getD cells 2 0) 2 (marks (getD cells 2 0) (d .mark) (mark-is g)), eq-eqb (getD cells 3 0) 0 spare)
 
-    zeroes-from : (a b : ℕ) → ((k : ℕ) → a ≤ k → k < b → getD cells k 0 ≡ 0) → zeroBetween cells a b ≡ true
+    -- a column of the table behind its last symbol
+    zeroes-from : (at : ℕ) → ((i : ℕ) → n ≤ i → i < 256 → getD cells (at + i) 0 ≡ 0) → zeroBetween cells (at + n) (at + 256) ≡ true
     unfolding zeroBetween
-    zeroes-from a b h = range-all (zeroAt cells) a b (λ k l u. eq-eqb (getD cells k 0) 0 (h k l u))
+    zeroes-from at unused =
+        range-all (zeroAt cells) (at + n) (at + 256)
+        (λ k l u.
+        let same : k ≡ at + (k - at) = omega arith in
+        eq-eqb (getD cells k 0) 0
+        (ap (λ (j : ℕ). getD cells j 0) same ∙ unused (k - at) (omega arith) (omega arith)))
 
     pub names-from : zeroBetween cells (4 + n) 260 ≡ true
-    names-from =
-        zeroes-from (4 + n) 260
-        (λ k l u.
-        let same : k ≡ 4 + (k - 4) = omega arith in
-        ap (λ (j : ℕ). getD cells j 0) same ∙ unused-name g (k - 4) (omega arith) (omega arith))
+    names-from = zeroes-from 4 (unused-name g)
 
     pub values-from : zeroBetween cells (260 + n) 516 ≡ true
-    values-from =
-        zeroes-from (260 + n) 516
-        (λ k l u.
-        let same : k ≡ 260 + (k - 260) = omega arith in
-        ap (λ (j : ℕ). getD cells j 0) same ∙ unused-value g (k - 260) (omega arith) (omega arith))
+    values-from = zeroes-from 260 (unused-value g)
 
     pub symbols-from : symbolsSound cells n ≡ true
     unfolding symbolsSound soundSymbol soundValue

@@ -8,25 +8,28 @@ use native.Mathlib.Omega.{arith}
 use borrow.Author.Tests.{eqb-true, eqb-false}
 use lib.ListN.{getD, set}
 use lib.Dec.{eqb}
-use Rattle.rules.specs.State.{Mark, unmarked, broken, frozen, marked}
+use Rattle.rules.specs.State.{Mark, unmarked, broken, frozen, State, state, marked}
 use Rattle.rules.specs.Calls.{shutBy}
 use Rattle.state.specs.Layout.{encode, decode, markCell, markOf}
-use Rattle.state.specs.Good.{Good, Holds, withNext}
+use Rattle.state.specs.Good.{Tidy, Good, Holds, withNext}
 use Rattle.state.proofs.LayoutLaws.{holds}
 
-pub next-set : {cells : List ℕ} → Good cells → (n : ℕ) → n ≤ 4096 → Holds (set cells 1 n) (withNext n (decode cells))
-unfolding encode
-next-set {cells} g n b =
-    let y = g .tidy in
-    holds (set cells 1 n) (withNext n (decode cells))
-    (record {
+-- another next address and another mark keep a state tidy
+header-tidy : {s : State} → Tidy s → (n : ℕ) (k : Mark) → n ≤ 4096 → Tidy (state (s .symbols) (s .words) n k)
+header-tidy y n k b =
+    record {
       few = y .few;
       values = y .values;
       different = y .different;
       full = y .full;
       words = y .words;
       low = b;
-    })
+    }
+
+pub next-set : {cells : List ℕ} → Good cells → (n : ℕ) → n ≤ 4096 → Holds (set cells 1 n) (withNext n (decode cells))
+unfolding encode
+next-set {cells} g n b =
+    holds (set cells 1 n) (withNext n (decode cells)) (header-tidy (g .tidy) n (decode cells .mark) b)
     (ap (λ (l : List ℕ). set l 1 n) (g .encoded))
 
 -- 0, 1 and 2 are the marks' cells
@@ -45,16 +48,8 @@ mark-cell k h = go (eqb k 0) (eqb k 1) refl refl
 pub mark-set : {cells : List ℕ} → Good cells → (k : ℕ) → k ≤ 2 → Holds (set cells 2 k) (marked (markOf k) (decode cells))
 unfolding encode
 mark-set {cells} g k b =
-    let y = g .tidy in
     holds (set cells 2 k) (marked (markOf k) (decode cells))
-    (record {
-      few = y .few;
-      values = y .values;
-      different = y .different;
-      full = y .full;
-      words = y .words;
-      low = y .low;
-    })
+    (header-tidy (g .tidy) (decode cells .next) (markOf k) (g .tidy .low))
     (ap (λ (l : List ℕ). set l 2 k) (g .encoded)
     ∙ ap (λ (j : ℕ). set (encode (decode cells)) 2 j) (mark-cell k b))
 
