@@ -5,13 +5,12 @@ use mathlib.Core.List.{List, [], _∷_, map}
 use mathlib.Core.Logic.{_≢_}
 use mathlib.Core.Path.{_≡_, refl, sym, ap, ap₂, subst, subst₂, _∙_}
 use native.Mathlib.Omega.{arith}
-use borrow.Author.Tests.{leb-true, eqb-true, eqb-false, le-leb, lt-ltb, ltb-true, eq-eqb, ne-eqb}
+use borrow.Author.Tests.{leb-true, eqb-true, eqb-false, le-leb, lt-ltb, ne-eqb}
 use lib.ListN.{getD}
 use lib.Dec.{eqb, leb, ltb}
 use Rattle.rules.specs.Text.{all, any, between, isPacked}
 use Rattle.rules.specs.State.{Symbol, nameIs, isSymbol, differentNames, soundSymbol, Word, unplaced, plain, refers, soundWord}
 use Rattle.state.specs.Layout.{valueCell, textCell, tagCell, symbolOf, wordOf, numbers, range, symbolIn, symbolsFrom}
-use Rattle.state.specs.Good.{soundValue}
 use Rattle.state.proofs.BoolLaws.{both, first, second}
 use Rattle.state.proofs.LayoutLaws.{word-back}
 use Rattle.soundness.specs.Checks.{valueSound, wordSound, unlikeAt, unlike, differsAt, namesDiffer}

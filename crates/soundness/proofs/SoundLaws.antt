@@ -1,6 +1,6 @@
 -- The tests on cells hold together exactly if the cells are the encoding of a sound state.
 use Prim.Native.Nat.{ℕ, _+_, _-_, _≤_, _<_}
-use mathlib.Core.Bool.{Bool, true, false, cond, not, _&&_, _||_}
+use mathlib.Core.Bool.{Bool, true, false, cond, _&&_}
 use mathlib.Core.List.{List, map}
 use mathlib.Core.Logic.{_≢_}
 use mathlib.Core.Path.{_≡_, refl, sym, ap, _∙_}
@@ -14,8 +14,8 @@ use mir.Val.{Fits}
 use Rattle.rules.specs.Text.{all, isPacked}
 use Rattle.rules.specs.State.{Symbol, Mark, unmarked, broken, frozen, unplaced, State, soundSymbol, differentNames, soundWord, sound}
 use Rattle.rules.specs.Calls.{wrongLength, damaged, holding}
-use Rattle.state.specs.Layout.{size, nameCell, valueCell, textCell, tagCell, markCell, encode, range, symbolIn, wordIn, symbolsFrom, wordsFrom, decode, soundCells, lent}
-use Rattle.state.specs.Good.{soundValue, Tidy, Good}
+use Rattle.state.specs.Layout.{size, nameCell, valueCell, textCell, tagCell, markCell, encode, range, symbolIn, wordIn, symbolsFrom, wordsBelow, decode, soundCells, lent}
+use Rattle.state.specs.Good.{soundValue, Good}
 use Rattle.state.specs.Table.{noSymbol}
 use Rattle.state.proofs.BoolLaws.{both, first, second, same-test}
 use Rattle.state.proofs.ListLaws.{all-range, range-all, all-map, all-at}
@@ -140,7 +140,7 @@ module _ (cells : List ℕ) where
     different = names-differ cells ∙ differ
 
     all-words : all (soundWord n) (d .words) ≡ true
-    unfolding decode wordsFrom
+    unfolding decode wordsBelow
     all-words =
         all-map (soundWord n) (wordIn cells) (range 0 4096)
         ∙ range-all (λ a. soundWord n (wordIn cells a)) 0 4096
@@ -168,25 +168,23 @@ module _ (cells : List ℕ) where
     unfolding headerSound encode
     header-from =
         let spare : getD cells 3 0 ≡ 0 = ap (λ (l : List ℕ). getD l 3 0) (g .encoded) in
-        rw (le-leb n 256 (g .few), le-leb (getD cells 1 0) 4096 (g .low), le-leb (getD cells 2 0) 2 (marks (getD cells 2 0) (d .mark) (mark-is cells g)), eq-eqb (getD cells 3 0) 0 spare)
+        rw (le-leb n 256 (g .few), le-leb (getD cells 1 0) 4096 (g .low), le-leb (getD cells 2 0) 2 (marks (getD cells 2 0) (d .mark) (mark-is g)), eq-eqb (getD cells 3 0) 0 spare)
 
-    zeroes-from : (a b : ℕ) → ((k : ℕ) → a ≤ k → k < b → getD cells k 0 ≡ 0) → zeroBetween cells a b ≡ true
+    -- a column of the table behind its last symbol
+    zeroes-from : (at : ℕ) → ((i : ℕ) → n ≤ i → i < 256 → getD cells (at + i) 0 ≡ 0) → zeroBetween cells (at + n) (at + 256) ≡ true
     unfolding zeroBetween
-    zeroes-from a b h = range-all (zeroAt cells) a b (λ k l u. eq-eqb (getD cells k 0) 0 (h k l u))
+    zeroes-from at unused =
+        range-all (zeroAt cells) (at + n) (at + 256)
+        (λ k l u.
+        let same : k ≡ at + (k - at) = omega arith in
+        eq-eqb (getD cells k 0) 0
+        (ap (λ (j : ℕ). getD cells j 0) same ∙ unused (k - at) (omega arith) (omega arith)))
 
     pub names-from : zeroBetween cells (4 + n) 260 ≡ true
-    names-from =
-        zeroes-from (4 + n) 260
-        (λ k l u.
-        let same : k ≡ 4 + (k - 4) = omega arith in
-        ap (λ (j : ℕ). getD cells j 0) same ∙ unused-name cells g (k - 4) (omega arith) (omega arith))
+    names-from = zeroes-from 4 (unused-name g)
 
     pub values-from : zeroBetween cells (260 + n) 516 ≡ true
-    values-from =
-        zeroes-from (260 + n) 516
-        (λ k l u.
-        let same : k ≡ 260 + (k - 260) = omega arith in
-        ap (λ (j : ℕ). getD cells j 0) same ∙ unused-value cells g (k - 260) (omega arith) (omega arith))
+    values-from = zeroes-from 260 (unused-value g)
 
     pub symbols-from : symbolsSound cells n ≡ true
     unfolding symbolsSound soundSymbol soundValue
@@ -197,7 +195,7 @@ module _ (cells : List ℕ) where
         (first (isPacked (getD cells (4 + i) 0)) (soundValue (symbolIn cells i))
         (ap soundSymbol (sym (symbol-is cells i u))
         ∙ all-at soundSymbol (d .symbols) noSymbol (sound-symbols d (sound-state cells e)) i (omega (arith, count-is cells))))
-        (sound-value (getD cells (260 + i) 0) (value-small cells g i u) (value-large cells g i u)))
+        (sound-value (getD cells (260 + i) 0) (value-small g i u) (value-large g i u)))
 
     pub differ-from : namesDiffer cells n ≡ true
     unfolding decode
@@ -208,8 +206,8 @@ module _ (cells : List ℕ) where
     words-from =
         range-all (wordSoundAt cells n) 0 4096
         (λ a l u.
-        let t = tag-is cells g a u in
-        sound-word n (getD cells (516 + a) 0) (getD cells (4612 + a) 0) (getD (d .words) a unplaced) (text-is cells g a u) (t .is) (omega (arith, t .inside, count-is cells)))
+        let t = tag-is g a u in
+        sound-word n (getD cells (516 + a) 0) (getD cells (4612 + a) 0) (getD (d .words) a unplaced) (text-is g a u) (t .is) (omega (arith, t .inside, count-is cells)))
 
 -- ---- what is lent, as the code tells it
 

@@ -1,5 +1,11 @@
 // The tests of soundness, each over a region of state memory.
 use crate::name::is_packed;
+use state::layout::ADDRESSES;
+use state::layout::DEFINED;
+use state::layout::NAMES;
+use state::layout::TAGS;
+use state::layout::TEXTS;
+use state::layout::VALUES;
 ghost use Prim.Native.Nat.{_≤_};
 ghost use mathlib.Core.Path.{_≡_};
 ghost use lib.ListN.{length};
@@ -42,7 +48,7 @@ fn value_sound(v: u64) -> bool
     if v == 0 {
         return true;
     }
-    if v < 65536 {
+    if v < DEFINED {
         return false;
     }
     v <= 131071
@@ -55,10 +61,10 @@ pub fn symbols_sound(state: &[u64], n: usize) -> bool
 {
     let mut i = 0;
     while i < n {
-        if !is_packed(state[4 + i]) {
+        if !is_packed(state[NAMES + i]) {
             return false;
         }
-        if !value_sound(state[260 + i]) {
+        if !value_sound(state[VALUES + i]) {
             return false;
         }
         i += 1;
@@ -74,7 +80,7 @@ fn unlike_from(state: &[u64], x: u64, i: usize, n: usize) -> bool
 {
     let mut j = i;
     while j < n {
-        if state[4 + j] == x {
+        if state[NAMES + j] == x {
             return false;
         }
         j += 1;
@@ -89,7 +95,7 @@ pub fn names_differ(state: &[u64], n: usize) -> bool
 {
     let mut i = 0;
     while i < n {
-        if !unlike_from(state, state[4 + i], i + 1, n) {
+        if !unlike_from(state, state[NAMES + i], i + 1, n) {
             return false;
         }
         i += 1;
@@ -113,8 +119,8 @@ pub fn words_sound(state: &[u64], n: usize) -> bool
     ensures { λ r. ⌜ r ≡ wordsSound (now (state .entry)) n ⌝ }
 {
     let mut a = 0;
-    while a < 4096 {
-        if !word_sound(n, state[516 + a], state[4612 + a]) {
+    while a < ADDRESSES {
+        if !word_sound(n, state[TEXTS + a], state[TAGS + a]) {
             return false;
         }
         a += 1;

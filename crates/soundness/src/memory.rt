@@ -4,6 +4,10 @@ use crate::cells::names_differ;
 use crate::cells::symbols_sound;
 use crate::cells::words_sound;
 use crate::cells::zero_between;
+use state::layout::NAMES;
+use state::layout::SIZE;
+use state::layout::TEXTS;
+use state::layout::VALUES;
 ghost use mathlib.Core.Path.{_≡_};
 ghost use Rattle.state.specs.Layout.{lent};
 ghost use Rattle.soundness.specs.Checks.{isHeld, Refusal};
@@ -12,17 +16,17 @@ ghost use Rattle.soundness.specs.Checks.{isHeld, Refusal};
 pub fn is_sound(state: &[u64]) -> bool
     ensures { λ r. ⌜ r ≡ isHeld (lent (now (state .entry))) ⌝ }
 {
-    if state.len() != 8708 {
+    if state.len() != SIZE {
         return false;
     }
     if !header_sound(state) {
         return false;
     }
     let n = state[0] as usize;
-    if !zero_between(state, 4 + n, 260) {
+    if !zero_between(state, NAMES + n, VALUES) {
         return false;
     }
-    if !zero_between(state, 260 + n, 516) {
+    if !zero_between(state, VALUES + n, TEXTS) {
         return false;
     }
     if !symbols_sound(state, n) {
@@ -41,7 +45,7 @@ pub fn refusal(state: &[u64]) -> u64
     if is_sound(state) {
         return 0;
     }
-    if state.len() != 8708 {
+    if state.len() != SIZE {
         return 1;
     }
     2

@@ -1,13 +1,13 @@
 -- The fresh state's cells are zeros, and the loop that writes them.
-use Prim.Native.Nat.{ℕ, zero, suc, _+_, _≤_, _<_}
-use mathlib.Core.Bool.{Bool, true}
+use Prim.Native.Nat.{ℕ, _+_, _<_}
+use mathlib.Core.Bool.{true}
 use mathlib.Core.List.{List, [], _∷_, _++_, map, append-nil}
 use mathlib.Core.Path.{_≡_, refl, sym, ap, _∙_}
 use native.Mathlib.Omega.{arith}
 use borrow.Author.Fill.{fill-more}
 use lib.ListN.{length, set, drop, replicate, length-replicate, drop-of-length-le}
 use Rattle.rules.specs.Text.{all}
-use Rattle.rules.specs.State.{Word, unplaced, differentNames, soundWord, noWords, State, fresh}
+use Rattle.rules.specs.State.{Word, unplaced, differentNames, soundWord, noWords, fresh}
 use Rattle.state.specs.Layout.{size, textCell, tagCell, zeros, padded, encode}
 use Rattle.state.specs.Good.{Tidy, Holds}
 use Rattle.state.proofs.ListLaws.{map-replicate, zeros-add, all-replicate}

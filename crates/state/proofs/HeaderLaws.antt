@@ -6,7 +6,7 @@ use mathlib.Core.Logic.{_≢_}
 use mathlib.Core.Path.{_≡_, refl, ap, _∙_}
 use native.Mathlib.Omega.{arith}
 use borrow.Author.Tests.{eqb-true, eqb-false}
-use lib.ListN.{length, getD, set}
+use lib.ListN.{getD, set}
 use lib.Dec.{eqb}
 use Rattle.rules.specs.State.{Mark, unmarked, broken, frozen, State, state, marked}
 use Rattle.rules.specs.Calls.{shutBy}
@@ -14,19 +14,22 @@ use Rattle.state.specs.Layout.{encode, decode, markCell, markOf}
 use Rattle.state.specs.Good.{Tidy, Good, Holds, withNext}
 use Rattle.state.proofs.LayoutLaws.{holds}
 
-pub next-set : (cells : List ℕ) (n : ℕ) → Good cells → n ≤ 4096 → Holds (set cells 1 n) (withNext n (decode cells))
-unfolding encode
-next-set cells n g b =
-    let y = g .tidy in
-    holds (set cells 1 n) (withNext n (decode cells))
-    (record {
+-- another next address and another mark keep a state tidy
+header-tidy : {s : State} → Tidy s → (n : ℕ) (k : Mark) → n ≤ 4096 → Tidy (state (s .symbols) (s .words) n k)
+header-tidy y n k b =
+    record {
       few = y .few;
       values = y .values;
       different = y .different;
       full = y .full;
       words = y .words;
       low = b;
-    })
+    }
+
+pub next-set : {cells : List ℕ} → Good cells → (n : ℕ) → n ≤ 4096 → Holds (set cells 1 n) (withNext n (decode cells))
+unfolding encode
+next-set {cells} g n b =
+    holds (set cells 1 n) (withNext n (decode cells)) (header-tidy (g .tidy) n (decode cells .mark) b)
     (ap (λ (l : List ℕ). set l 1 n) (g .encoded))
 
 -- 0, 1 and 2 are the marks' cells
@@ -42,25 +45,17 @@ mark-cell k h = go (eqb k 0) (eqb k 1) refl refl
         let n : k ≢ 1 = eqb-false k 1 q in
         omega arith
 
-pub mark-set : (cells : List ℕ) (k : ℕ) → Good cells → k ≤ 2 → Holds (set cells 2 k) (marked (markOf k) (decode cells))
+pub mark-set : {cells : List ℕ} → Good cells → (k : ℕ) → k ≤ 2 → Holds (set cells 2 k) (marked (markOf k) (decode cells))
 unfolding encode
-mark-set cells k g b =
-    let y = g .tidy in
+mark-set {cells} g k b =
     holds (set cells 2 k) (marked (markOf k) (decode cells))
-    (record {
-      few = y .few;
-      values = y .values;
-      different = y .different;
-      full = y .full;
-      words = y .words;
-      low = y .low;
-    })
+    (header-tidy (g .tidy) (decode cells .next) (markOf k) (g .tidy .low))
     (ap (λ (l : List ℕ). set l 2 k) (g .encoded)
     ∙ ap (λ (j : ℕ). set (encode (decode cells)) 2 j) (mark-cell k b))
 
-pub mark-is : (cells : List ℕ) → Good cells → getD cells 2 0 ≡ markCell (decode cells .mark)
+pub mark-is : {cells : List ℕ} → Good cells → getD cells 2 0 ≡ markCell (decode cells .mark)
 unfolding encode
-mark-is cells g = ap (λ (l : List ℕ). getD l 2 0) (g .encoded)
+mark-is g = ap (λ (l : List ℕ). getD l 2 0) (g .encoded)
 
 pub shut-is : (m : Mark) (k : ℕ) → k ≡ markCell m → shutBy m ≡ cond (eqb k 0) 0 (cond (eqb k 1) 3 4)
 unfolding shutBy

@@ -4,12 +4,12 @@ use mathlib.Core.Bool.{Bool, true, false, cond, not, _&&_, _||_}
 use mathlib.Core.List.{List, [], _∷_}
 use mathlib.Core.Logic.{_≢_}
 use mathlib.Core.Path.{_≡_, refl, sym, ap, _∙_}
-use native.Mathlib.Nat.{not-suc-le-zero, le-of-suc-le-suc}
+use native.Mathlib.Nat.{not-suc-le-zero}
 use native.Mathlib.Numerals.{add-one}
 use native.Mathlib.Omega.{arith}
-use borrow.Author.Tests.{ltb-true, lt-ltb, eqb-true, eqb-false, eq-eqb, ne-eqb, not-true}
+use borrow.Author.Tests.{ltb-true, ltb-false, lt-ltb, eqb-true, eqb-false, ne-eqb, not-true}
 use lib.ListN.{length, getD}
-use lib.Dec.{eqb, leb, ltb}
+use lib.Dec.{eqb, ltb}
 use Rattle.rules.specs.Text.{all, any}
 use Rattle.rules.specs.State.{Symbol, symbol, nameIs, isSymbol, placeOf, differentNames, Word, unplaced, plain, refers, soundWord, State}
 use Rattle.rules.specs.Placing.{define, mention}
@@ -56,6 +56,22 @@ place-most x (s ∷ t) = go (eqb (s .name) x) (place-most x t)
     go : (b : Bool) → placeOf x t ≤ length t → cond b 0 (placeOf x t + 1) ≤ suc (length t)
     go true e = omega arith
     go false e = omega arith
+
+-- a table only grows
+pub define-length : (x v : ℕ) (t : List Symbol) → length (define x v t) ≡ max (length t) (placeOf x t + 1)
+define-length x v t =
+    ap length (define-put x v t) ∙ length-put (placeOf x t) (symbol x v true) t (place-most x t)
+
+pub mention-length : (x : ℕ) (t : List Symbol) → length (mention x t) ≡ max (length t) (placeOf x t + 1)
+mention-length x t = go (ltb (placeOf x t) (length t)) refl
+  where
+    go : (b : Bool) → ltb (placeOf x t) (length t) ≡ b → length (mention x t) ≡ max (length t) (placeOf x t + 1)
+    go true e =
+        let h = ltb-true (placeOf x t) (length t) e in
+        ap length (mention-known x t h) ∙ omega arith
+    go false e =
+        ap length (mention-new x t (ltb-false (placeOf x t) (length t) e))
+        ∙ length-put (placeOf x t) (symbol x 0 false) t (place-most x t)
 
 -- ---- a tidy table stays tidy
 

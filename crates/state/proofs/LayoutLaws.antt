@@ -1,23 +1,20 @@
 -- A state and its cells: each cell of an encoding, and that decoding gives the state back.
 use Prim.Native.Nat.{ℕ, _+_, _-_, _≤_, _<_}
 use mathlib.Core.Bool.{Bool, true, false, cond, not, _&&_, _||_}
-use mathlib.Core.List.{List, [], _∷_, _++_, map}
+use mathlib.Core.List.{List, map}
 use mathlib.Core.Path.{_≡_, refl, sym, ap, ap₂, subst, _∙_}
 use native.Mathlib.Omega.{arith}
-use borrow.Author.Tests.{leb-true, eqb-true, ne-eqb}
+use borrow.Author.Tests.{eqb-true, ne-eqb}
 use lib.ListN.{length, getD, length-map, List·getD-map, List·getD-eq-default}
 use lib.Dec.{eqb, leb}
 use Rattle.rules.specs.Text.{all}
 use Rattle.rules.specs.State.{Symbol, symbol, Word, unplaced, plain, refers, Mark, unmarked, broken, frozen, State, state}
-use Rattle.state.specs.Layout.{size, nameCell, valueCell, textCell, tagCell, markCell, padded, header, names, values, texts, tags, encode, range, symbolOf, wordOf, markOf, symbolIn, wordIn, symbolsFrom, wordsFrom, decode}
+use Rattle.state.specs.Layout.{size, nameCell, valueCell, textCell, tagCell, markCell, padded, header, names, values, texts, tags, encode, symbolOf, wordOf, markOf, symbolIn, wordIn, symbolsFrom, wordsBelow, decode}
 use Rattle.state.specs.Good.{soundValue, Tidy, Good, Holds}
-use Rattle.state.proofs.BoolLaws.{both, first, second}
+use Rattle.state.specs.Table.{noSymbol}
+use Rattle.state.proofs.BoolLaws.{second}
 use Rattle.state.proofs.ListLaws.{length-padded, getD-padded, length-map-range, getD-map-range, map-range, all-at}
 use Rattle.state.proofs.RegionLaws.{length-flat, at-name, at-value, at-text, at-tag}
-
--- no symbol, whose cells are 0
-abbrev pub noSymbol : Symbol
-noSymbol = symbol 0 0 false
 
 -- ---- the cells of an encoding
 
@@ -96,8 +93,8 @@ module _ (s : State) (few : length (s .symbols) ≤ 256) (full : length (s .word
       (encode-value s few k (omega arith) ∙ List·getD-map valueCell (s .symbols) k noSymbol)
       ∙ symbol-back (getD (s .symbols) k noSymbol) (all-at soundValue (s .symbols) noSymbol valued k h))
 
-  words-back : wordsFrom (encode s) 0 ≡ s .words
-  unfolding wordsFrom
+  words-back : wordsBelow (encode s) 4096 ≡ s .words
+  unfolding wordsBelow
   words-back =
       map-range (wordIn (encode s)) (s .words) 4096 unplaced (sym full)
       (λ k h. ap₂ wordOf (encode-text s few full k h) (encode-tag s few full k) ∙ word-back (getD (s .words) k unplaced))
@@ -129,14 +126,24 @@ holds-encode s y =
 pub holds : (cells : List ℕ) (s : State) → Tidy s → cells ≡ encode s → Holds cells s
 holds cells s y e = subst (λ (l : List ℕ). Holds l s) (sym e) (holds-encode s y)
 
+pub good-holds : {cells : List ℕ} → Good cells → Holds cells (decode cells)
+good-holds g = record { good = g; is = refl }
+
+-- two changes, one after the other
+pub holds-then : (f : State → State) {cells after : List ℕ} {s : State} → Holds cells s → Holds after (f (decode cells)) → Holds after (f s)
+holds-then f h k = record { good = k .good; is = k .is ∙ ap f (h .is) }
+
 -- ---- what good cells are read by
 
 pub count-is : (cells : List ℕ) → length (decode cells .symbols) ≡ getD cells 0 0
 unfolding decode symbolsFrom
 count-is cells = length-map-range (symbolIn cells) 0 (getD cells 0 0) ∙ omega arith
 
+pub inside : (cells : List ℕ) (i : ℕ) → i < length (decode cells .symbols) → i < getD cells 0 0
+inside cells i h = omega (arith, count-is cells)
+
 pub words-long : (cells : List ℕ) → length (decode cells .words) ≡ 4096
-unfolding decode wordsFrom
+unfolding decode wordsBelow
 words-long cells = length-map-range (wordIn cells) 0 4096
 
 pub symbol-is : (cells : List ℕ) (i : ℕ) → i < getD cells 0 0 → getD (decode cells .symbols) i noSymbol ≡ symbolIn cells i
@@ -144,11 +151,11 @@ unfolding decode symbolsFrom
 symbol-is cells i h = getD-map-range (symbolIn cells) (getD cells 0 0) i noSymbol h
 
 pub word-is : (cells : List ℕ) (a : ℕ) → a < 4096 → getD (decode cells .words) a unplaced ≡ wordIn cells a
-unfolding decode wordsFrom
+unfolding decode wordsBelow
 word-is cells a h = getD-map-range (wordIn cells) 4096 a unplaced h
 
 -- the cells behind the last symbol's
-module _ (cells : List ℕ) (g : Good cells) (i : ℕ) (b : getD cells 0 0 ≤ i) (h : i < 256) where
+module _ {cells : List ℕ} (g : Good cells) (i : ℕ) (b : getD cells 0 0 ≤ i) (h : i < 256) where
   unused : (f : Symbol → ℕ) → getD (map f (decode cells .symbols)) i 0 ≡ 0
   unused f =
       List·getD-eq-default (map f (decode cells .symbols)) 0 (omega (arith, length-map (decode cells .symbols) f, count-is cells))

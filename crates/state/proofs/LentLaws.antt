@@ -1,6 +1,6 @@
 -- Sound cells: they are good, they are the encoding of what they decode to, and a sound state's encoding is sound.
-use Prim.Native.Nat.{ℕ, _≤_}
-use mathlib.Core.Bool.{Bool, true, false, cond, _&&_, _||_, false≢true}
+use Prim.Native.Nat.{ℕ}
+use mathlib.Core.Bool.{true, false, _&&_, false≢true}
 use mathlib.Core.List.{List, [], _∷_}
 use mathlib.Core.Logic.{_≢_}
 use mathlib.Core.Path.{_≡_, refl, sym, ap, ap₂, _∙_}
@@ -9,13 +9,13 @@ use lib.ListN.{length}
 use lib.Dec.{eqb, leb}
 use Rattle.rules.specs.Text.{all, isPacked}
 use Rattle.rules.specs.Line.{sameText}
-use Rattle.rules.specs.State.{Symbol, State, soundSymbol, differentNames, soundWord, sound}
-use Rattle.rules.specs.Calls.{Lent, wrongLength, damaged, holding, Left, now}
+use Rattle.rules.specs.State.{State, soundSymbol, differentNames, soundWord, sound}
+use Rattle.rules.specs.Calls.{wrongLength, damaged, holding, now}
 use Rattle.state.specs.Layout.{size, encode, decode, soundCells, lent, cellsAfter}
 use Rattle.state.specs.Good.{soundValue, Tidy, Good, Holds}
 use Rattle.state.proofs.BoolLaws.{both, first, second}
 use Rattle.state.proofs.ListLaws.{all-weaken}
-use Rattle.state.proofs.LayoutLaws.{decode-encode, encode-long, holds-encode, holds}
+use Rattle.state.proofs.LayoutLaws.{decode-encode, encode-long, holds}
 
 -- ---- lists that a test finds alike
 
@@ -104,19 +104,24 @@ unfolding lent
 lent-holding cells h e = rw (eq-eqb _ _ h, e)
 
 -- a sound state's encoding is sound cells, and holds it
+pub encode-sound : (s : State) → sound s ≡ true → soundCells (encode s) ≡ true
+encode-sound s e =
+    let y = sound-tidy s e in
+    let back : decode (encode s) ≡ s = decode-encode s (y .few) (y .full) (y .values) in
+    cells-sound (encode s) (ap encode (sym back)) (ap sound back ∙ e)
+
 pub lent-encode : (s : State) → sound s ≡ true → lent (encode s) ≡ holding s
 lent-encode s e =
     let y = sound-tidy s e in
-    let back : decode (encode s) ≡ s = decode-encode s (y .few) (y .full) (y .values) in
-    lent-holding (encode s) (encode-long s (y .few) (y .full)) (cells-sound (encode s) (ap encode (sym back)) (ap sound back ∙ e))
-    ∙ ap holding back
+    lent-holding (encode s) (encode-long s (y .few) (y .full)) (encode-sound s e)
+    ∙ ap holding (decode-encode s (y .few) (y .full) (y .values))
 
 -- ---- what is left
 
 -- cells that hold a state are its encoding
-pub held-cells : (cells : List ℕ) (s : State) → Holds cells s → cells ≡ encode s
-held-cells cells s h = h .good .encoded ∙ ap encode (h .is)
+pub held-cells : {cells : List ℕ} {s : State} → Holds cells s → cells ≡ encode s
+held-cells h = h .good .encoded ∙ ap encode (h .is)
 
-pub left-cells : (before cells : List ℕ) (s : State) → Holds cells s → cells ≡ cellsAfter before (now s)
+pub left-cells : (before : List ℕ) {cells : List ℕ} {s : State} → Holds cells s → cells ≡ cellsAfter before (now s)
 unfolding cellsAfter
-left-cells before cells s h = held-cells cells s h
+left-cells before h = held-cells h

@@ -9,3 +9,4 @@ pub mod TableLaws
 pub mod WordLaws
 pub mod FreshLaws
 pub mod LentLaws
+pub mod CallLaws

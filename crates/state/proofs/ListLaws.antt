@@ -1,12 +1,11 @@
 -- Lists that are read and changed at an offset, tables with zeros behind them, and the numbers of a range.
 use Prim.Native.Nat.{ℕ, zero, suc, _+_, _-_, _≤_, _<_, max}
-use mathlib.Core.Bool.{Bool, true, false, cond, not, _&&_}
+use mathlib.Core.Bool.{Bool, true, false, _&&_}
 use mathlib.Core.List.{List, [], _∷_, _++_, map}
 use mathlib.Core.Path.{_≡_, refl, sym, ap, ap₂, _∙_}
 use native.Mathlib.Nat.{zero-add, suc-add, sub-zero, suc-sub-suc, not-suc-le-zero, le-of-suc-le-suc}
-use native.Mathlib.Numerals.{add-one}
 use native.Mathlib.Omega.{arith}
-use lib.ListN.{length, getD, set, replicate, length-append, length-replicate, length-map, length-set, replicate-append-replicate}
+use lib.ListN.{length, getD, set, replicate, length-append, length-replicate, length-map, replicate-append-replicate}
 use lib.Seq.{getD-append-add, ext-getD}
 use Rattle.rules.specs.Text.{all}
 use Rattle.state.proofs.BoolLaws.{both, first, second}
@@ -41,11 +40,6 @@ module _ {A : Type 0} where
   length-put (suc i) a (x ∷ l) h =
       let e : length (put i a l) ≡ max (length l) (i + 1) = length-put i a l (le-of-suc-le-suc h) in
       omega arith
-
-  pub put-inside : (i : ℕ) (a : A) (l : List A) → i < length l → put i a l ≡ set l i a
-  put-inside i a [] h = absurd (not-suc-le-zero h)
-  put-inside zero a (x ∷ l) h = refl
-  put-inside (suc i) a (x ∷ l) h = ap (λ (r : List A). x ∷ r) (put-inside i a l (le-of-suc-le-suc h))
 
 pub map-put : {A B : Type 0} (f : A → B) (i : ℕ) (a : A) (l : List A) → map f (put i a l) ≡ put i (f a) (map f l)
 map-put f zero a [] = refl

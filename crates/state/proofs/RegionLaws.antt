@@ -17,12 +17,6 @@ module _ (h ns vs ts gs : List ℕ) (lh : length h ≡ 4) where
   pub length-flat : length (flat h ns vs ts gs) ≡ 4 + (length ns + (length vs + (length ts + length gs)))
   length-flat = simp (length-append, lh)
 
-  pub at-head : (i : ℕ) → i < 4 → getD (flat h ns vs ts gs) i 0 ≡ getD h i 0
-  at-head i b = List·getD-append h (ns ++ (vs ++ (ts ++ gs))) 0 i (omega arith)
-
-  pub set-head : (i v : ℕ) → i < 4 → set (flat h ns vs ts gs) i v ≡ flat (set h i v) ns vs ts gs
-  set-head i v b = set-append-left h (ns ++ (vs ++ (ts ++ gs))) i v (omega arith)
-
   module _ (ln : length ns ≡ 256) where
     pub at-name : (i : ℕ) → i < 256 → getD (flat h ns vs ts gs) (4 + i) 0 ≡ getD ns i 0
     at-name i b =

@@ -1,17 +1,18 @@
 -- The table of symbols in cells: the loops that go through it.
-use Prim.Native.Nat.{ℕ, suc, _+_, _-_, _≤_, _<_}
-use mathlib.Core.Bool.{Bool, true, false, cond, not, _&&_, _||_}
+use Prim.Native.Nat.{ℕ, _+_, _-_, _≤_, _<_}
+use mathlib.Core.Bool.{true, _||_}
 use mathlib.Core.List.{List, [], _∷_, map}
 use mathlib.Core.Logic.{_≢_}
-use mathlib.Core.Path.{_≡_, refl, sym, ap, _∙_}
+use mathlib.Core.Path.{_≡_, sym, ap, _∙_}
 use native.Mathlib.Nat.{sub-zero}
 use native.Mathlib.Omega.{arith}
 use borrow.Author.Tests.{eq-eqb, ne-eqb, leb-true}
 use lib.ListN.{length, getD, List·getD-map}
 use lib.Dec.{eqb, leb}
-use Rattle.rules.specs.State.{Symbol, symbol, placeOf, undefinedOnly}
-use Rattle.state.specs.Layout.{nameCell, valueCell, encode, range, symbolOf, symbolIn, symbolsFrom, decode}
-use Rattle.state.specs.Good.{soundValue, Tidy, Good}
+use Rattle.rules.specs.State.{placeOf, undefinedOnly}
+use Rattle.rules.specs.Image.{valueOf}
+use Rattle.state.specs.Layout.{valueCell, symbolIn, symbolsFrom, decode}
+use Rattle.state.specs.Good.{soundValue, Good}
 use Rattle.state.specs.Table.{noSymbol, listed, undefinedPlace}
 use Rattle.state.proofs.BoolLaws.{first}
 use Rattle.state.proofs.ListLaws.{range-step, range-end, all-at}
@@ -74,7 +75,7 @@ module _ (cells : List ℕ) (i : ℕ) where
 
 -- ---- the value cells of good memory
 
-module _ (cells : List ℕ) (g : Good cells) (i : ℕ) (h : i < getD cells 0 0) where
+module _ {cells : List ℕ} (g : Good cells) (i : ℕ) (h : i < getD cells 0 0) where
   value-cell : getD cells (260 + i) 0 ≡ valueCell (symbolIn cells i)
   value-cell =
       ap (λ (l : List ℕ). getD l (260 + i) 0) (g .encoded)
@@ -103,3 +104,12 @@ module _ (cells : List ℕ) (g : Good cells) (i : ℕ) (h : i < getD cells 0 0) 
 
   pub listed-defined : getD cells (260 + i) 0 ≢ 0 → listed (getD (decode cells .symbols) i noSymbol) ≡ record { name = getD cells (4 + i) 0; value = getD cells (260 + i) 0 - 65536; defined = 1 }
   listed-defined e = rw (symbol-is cells i h, ne-eqb _ _ e)
+
+  -- what it adds to a word that refers to it
+  pub value-undefined : getD cells (260 + i) 0 ≡ 0 → valueOf (decode cells .symbols) i ≡ 0
+  unfolding valueOf
+  value-undefined e = rw (symbol-is cells i h, e)
+
+  pub value-defined : getD cells (260 + i) 0 ≢ 0 → valueOf (decode cells .symbols) i ≡ getD cells (260 + i) 0 - 65536
+  unfolding valueOf
+  value-defined e = rw (symbol-is cells i h, ne-eqb _ _ e)

@@ -1,16 +1,16 @@
 -- The table of symbols in cells: what a store of a symbol makes of good memory.
-use Prim.Native.Nat.{ℕ, _+_, _≤_, _<_, max}
-use mathlib.Core.Bool.{Bool, true, false, cond, not, _&&_, _||_}
-use mathlib.Core.List.{List, [], _∷_, _++_, map}
+use Prim.Native.Nat.{ℕ, _+_, _≤_, _<_}
+use mathlib.Core.Bool.{Bool, true, false, cond, _&&_}
+use mathlib.Core.List.{List, [], _∷_, map}
 use mathlib.Core.Logic.{_≢_}
 use mathlib.Core.Path.{_≡_, refl, sym, ap, subst, _∙_}
 use native.Mathlib.Omega.{arith}
 use borrow.Author.Tests.{le-leb, lt-leb, lt-ltb}
 use lib.ListN.{length, getD, set, length-map, length-set}
 use lib.Seq.{set-getD, getD-set-other}
-use lib.Dec.{eqb, leb}
+use lib.Dec.{leb}
 use Rattle.rules.specs.Text.{any}
-use Rattle.rules.specs.State.{Symbol, symbol, nameIs, placeOf, State}
+use Rattle.rules.specs.State.{Symbol, symbol, nameIs, State}
 use Rattle.rules.specs.Placing.{define, mention}
 use Rattle.rules.specs.Calls.{withSymbols}
 use Rattle.state.specs.Layout.{nameCell, valueCell, markCell, padded, header, names, values, texts, tags, encode, symbolIn, decode}
@@ -18,9 +18,9 @@ use Rattle.state.specs.Good.{soundValue, Tidy, Good, Holds}
 use Rattle.state.specs.Table.{noSymbol, Place, Joined, MentionedAt}
 use Rattle.state.proofs.ListLaws.{put, length-put, map-put, set-padded}
 use Rattle.state.proofs.RegionLaws.{flat, set-name, set-value}
-use Rattle.state.proofs.LayoutLaws.{table-long, holds, count-is, symbol-is, unused-value}
+use Rattle.state.proofs.LayoutLaws.{table-long, holds, good-holds, count-is, symbol-is, unused-value}
 use Rattle.state.proofs.BoolLaws.{both}
-use Rattle.state.proofs.JoinLaws.{define-put, mention-known, mention-new, put-tidy, place-most, at-place, at-no-place}
+use Rattle.state.proofs.JoinLaws.{define-put, mention-known, mention-new, put-tidy, at-place, at-no-place}
 
 -- ---- a symbol stored at a place of the table, or just behind it
 
@@ -69,7 +69,16 @@ joined-no t s cells h k =
     let e : leb (length t) 256 ≡ false = lt-leb (length t) 256 h in
     record { room = sym e; holds = rw e k }
 
-module _ (cells : List ℕ) (g : Good cells) (x i : ℕ) (p : Place x (decode cells .symbols) i) where
+-- for callers: the two answers
+pub joined-holds : {t : List Symbol} {s : State} {cells : List ℕ} → Joined t s true cells → Holds cells (withSymbols t s)
+joined-holds {t} {s} {cells} j =
+    subst (λ (b : Bool). Holds cells (cond b (withSymbols t s) s)) (sym (j .room)) (j .holds)
+
+pub joined-kept : {t : List Symbol} {s : State} {cells : List ℕ} → Joined t s false cells → Holds cells s
+joined-kept {t} {s} {cells} j =
+    subst (λ (b : Bool). Holds cells (cond b (withSymbols t s) s)) (sym (j .room)) (j .holds)
+
+module _ {cells : List ℕ} (g : Good cells) {x i : ℕ} (p : Place x (decode cells .symbols) i) where
   abbrev t : List Symbol
   t = decode cells .symbols
 
@@ -101,7 +110,7 @@ module _ (cells : List ℕ) (g : Good cells) (x i : ℕ) (p : Place x (decode ce
   put-full : (a : Symbol) → i ≡ 256 → Joined (put i a t) (decode cells) false cells
   put-full a e =
       joined-no (put i a t) (decode cells) cells (omega (arith, length-put i a t (p .most)))
-      (record { good = g; is = refl })
+      (good-holds g)
 
   -- ---- in the words of the code
 
@@ -142,7 +151,7 @@ module _ (cells : List ℕ) (g : Good cells) (x i : ℕ) (p : Place x (decode ce
       mentioned-there
       (omega (arith, g .few))
       (rw (mention-known x t (omega (arith, p .is, count-is cells)))
-      (joined-yes t (decode cells) cells (g .tidy .few) (record { good = g; is = refl })))
+      (joined-yes t (decode cells) cells (g .tidy .few) (good-holds g)))
 
   module _ (b : getD cells 0 0 ≤ i) where
     as-mentioned : (r : Bool) (after : List ℕ) → Joined (put i (symbol x 0 false) t) (decode cells) r after → Joined (mention x t) (decode cells) r after
@@ -163,7 +172,7 @@ module _ (cells : List ℕ) (g : Good cells) (x i : ℕ) (p : Place x (decode ce
     kept : i < 256 → set (set cells (4 + i) x) (260 + i) 0 ≡ set cells (4 + i) x
     kept h =
         let z : getD (set cells (4 + i) x) (260 + i) 0 ≡ 0 =
-        getD-set-other cells (4 + i) (260 + i) x 0 (omega arith) ∙ unused-value cells g i b h in
+        getD-set-other cells (4 + i) (260 + i) x 0 (omega arith) ∙ unused-value g i b h in
         ap (set (set cells (4 + i) x) (260 + i)) (sym z) ∙ set-getD (set cells (4 + i) x) (260 + i) 0
 
     pub mention-behind : i ≢ 256 → MentionedAt x (decode cells) i (set (set cells (4 + i) x) 0 (i + 1))
@@ -176,7 +185,7 @@ module _ (cells : List ℕ) (g : Good cells) (x i : ℕ) (p : Place x (decode ce
 
 -- ---- asking for a name
 
-module _ (cells : List ℕ) (g : Good cells) (x i : ℕ) (p : Place x (decode cells .symbols) i) where
+module _ {cells : List ℕ} (g : Good cells) {x i : ℕ} (p : Place x (decode cells .symbols) i) where
   pub name-there : (q : Symbol → Bool) → i < getD cells 0 0 → any (λ s. nameIs x s && q s) (decode cells .symbols) ≡ q (symbolIn cells i)
   name-there q b =
       at-place x q (decode cells .symbols) (g .tidy .different) (omega (arith, p .is, count-is cells))

@@ -1,24 +1,22 @@
 -- The program words in cells.
-use Prim.Native.Nat.{ℕ, zero, suc, _+_, _-_, _^_, _≤_, _<_}
-use mathlib.Core.Bool.{Bool, true, false, cond, not, _&&_}
+use Prim.Native.Nat.{ℕ, _+_, _-_, _^_, _≤_, _<_}
+use mathlib.Core.Bool.{Bool, true, false, cond, not}
 use mathlib.Core.List.{List, [], _∷_, _++_, map}
 use mathlib.Core.Logic.{_≢_}
-use mathlib.Core.Path.{_≡_, refl, sym, ap, ap₂, subst, _∙_}
-use native.Mathlib.Numerals.{add-one}
+use mathlib.Core.Path.{_≡_, refl, sym, ap, ap₂, _∙_}
 use native.Mathlib.Omega.{arith}
 use borrow.Author.Tests.{lt-ltb, ltb-true, eq-eqb, ne-eqb, eqb-true, eqb-false}
 use lib.ListN.{length, getD, set, length-map, length-set, List·getD-eq-default}
 use lib.Seq.{set-out}
 use lib.Dec.{eqb, ltb}
-use Rattle.rules.specs.Text.{all}
 use Rattle.rules.specs.State.{Word, unplaced, plain, refers, isPlaced, refersTo, highestFrom, highest, soundWord, State}
-use Rattle.state.specs.Layout.{nameCell, valueCell, textCell, tagCell, header, names, values, texts, tags, encode, range, wordOf, wordIn, wordsFrom, decode}
-use Rattle.state.specs.Good.{Tidy, Good, Holds, withWords}
+use Rattle.state.specs.Layout.{nameCell, valueCell, textCell, tagCell, header, names, values, texts, tags, encode, range, wordOf, wordIn, wordsBelow, decode}
+use Rattle.state.specs.Good.{Good, Holds, withWords}
 use Rattle.state.specs.Words.{Tagged}
 use Rattle.state.proofs.BoolLaws.{both, second, same-test}
 use Rattle.state.proofs.ListLaws.{map-set, map-last, all-at, all-set, range-last, range-end, length-map-range}
 use Rattle.state.proofs.RegionLaws.{flat, set-text, set-tag}
-use Rattle.state.proofs.LayoutLaws.{table-long, holds, word-is, encode-text, encode-tag}
+use Rattle.state.proofs.LayoutLaws.{table-long, holds, good-holds, word-is, encode-text, encode-tag}
 
 -- ---- reading
 
@@ -31,7 +29,7 @@ placed-is text tag = go (eqb tag 0) (eqb tag 1)
     go false true = refl
     go false false = refl
 
-module _ (cells : List ℕ) (g : Good cells) (a : ℕ) where
+module _ {cells : List ℕ} (g : Good cells) (a : ℕ) where
   pub is-placed-at : a < 4096 → isPlaced (getD (decode cells .words) a unplaced) ≡ not (eqb (getD cells (4612 + a) 0) 0)
   is-placed-at h = ap isPlaced (word-is cells a h) ∙ placed-is (getD cells (516 + a) 0) (getD cells (4612 + a) 0)
 
@@ -70,7 +68,7 @@ module _ (cells : List ℕ) (g : Good cells) (a : ℕ) where
     pub word-past : 4096 ≤ a → Holds cells after
     word-past h =
         rw (set-out (decode cells .words) a w (omega (arith, g .tidy .full)))
-        (record { good = g; is = refl })
+        (good-holds g)
 
     stored : (s : State) → length (s .symbols) ≤ 256 → length (s .words) ≡ 4096 → a < 4096 → set (set (encode s) (516 + a) (textCell w)) (4612 + a) (tagCell w) ≡ encode (withWords (set (s .words) a w) s)
     unfolding encode
@@ -107,10 +105,6 @@ refers-sound n x i h b = both (ltb x (2 ^ 64)) (ltb i n) (lt-ltb x (2 ^ 64) h) (
 
 -- ---- the highest reference, from the top down
 
--- the words below address a
-unfoldable pub wordsBelow : List ℕ → ℕ → List Word
-wordsBelow cells a = map (wordIn cells) (range 0 a)
-
 highest-last : (i from best : ℕ) (l : List Word) (w : Word) → highestFrom i from best (l ++ (w ∷ [])) ≡ cond (refersTo i w) (from + length l) (highestFrom i from best l)
 unfolding highestFrom
 highest-last i from best [] w = ap (λ (k : ℕ). cond (refersTo i w) k best) (omega arith)
@@ -143,21 +137,19 @@ module _ (cells : List ℕ) (i a : ℕ) where
       (refers-is i (getD cells (516 + a) 0) (getD cells (4612 + a) 0))
       (omega (arith, length-map-range (wordIn cells) 0 a))
 
--- in the words of the code: the loop stands at a, and looks at a - 1
-module _ (cells : List ℕ) (i a : ℕ) (h : 0 < a) where
-  look : highest i (wordsBelow cells a) ≡ cond (eqb (getD cells (4612 + (a - 1)) 0) (2 + i)) (a - 1) (highest i (wordsBelow cells (a - 1)))
-  look =
-      let e : a ≡ a - 1 + 1 = omega arith in
-      ap (λ (k : ℕ). highest i (wordsBelow cells k)) e ∙ below-more cells i (a - 1)
+-- in the words of the code: k words are left, and the last of them is at a
+module _ (cells : List ℕ) (i a k : ℕ) (e : k ≡ a + 1) where
+  look : highest i (wordsBelow cells k) ≡ cond (eqb (getD cells (4612 + a) 0) (2 + i)) a (highest i (wordsBelow cells a))
+  look = ap (λ (j : ℕ). highest i (wordsBelow cells j)) e ∙ below-more cells i a
 
-  pub highest-here : getD cells (4612 + (a - 1)) 0 ≡ 2 + i → highest i (wordsBelow cells a) ≡ a - 1
-  highest-here e = look ∙ rw (eq-eqb _ _ e)
+  pub highest-here : getD cells (4612 + a) 0 ≡ 2 + i → highest i (wordsBelow cells k) ≡ a
+  highest-here h = look ∙ rw (eq-eqb _ _ h)
 
-  pub highest-lower : getD cells (4612 + (a - 1)) 0 ≢ 2 + i → highest i (wordsBelow cells (a - 1)) ≡ highest i (wordsBelow cells a)
-  highest-lower e = sym (look ∙ rw (ne-eqb _ _ e))
+  pub highest-lower : (j : ℕ) → j ≡ a → getD cells (4612 + a) 0 ≢ 2 + i → highest i (wordsBelow cells j) ≡ highest i (wordsBelow cells k)
+  highest-lower j d h = ap (λ (j : ℕ). highest i (wordsBelow cells j)) d ∙ sym (look ∙ rw (ne-eqb _ _ h))
 
 pub highest-all : (cells : List ℕ) (i : ℕ) → highest i (wordsBelow cells 4096) ≡ highest i (decode cells .words)
-unfolding wordsBelow decode wordsFrom
+unfolding decode
 highest-all cells i = refl
 
 pub highest-none : (cells : List ℕ) (i a : ℕ) → a ≤ 0 → highest i (wordsBelow cells a) ≡ 65535

@@ -1,6 +1,6 @@
 -- State memory: a lent slice of 64-bit cells, the state that it holds, and what a call finds and leaves there.
 use Prim.Native.Nat.{ℕ, zero, suc, _+_, _-_}
-use mathlib.Core.Bool.{Bool, true, false, cond, not, _&&_}
+use mathlib.Core.Bool.{Bool, cond, not, _&&_}
 use mathlib.Core.List.{List, [], _∷_, _++_, map}
 use lib.ListN.{length, getD, replicate}
 use lib.Dec.{eqb}
@@ -102,15 +102,16 @@ symbolIn cells i = symbolOf (getD cells (namesAt + i) 0) (getD cells (valuesAt +
 abbrev pub wordIn : List ℕ → ℕ → Word
 wordIn cells a = wordOf (getD cells (textsAt + a) 0) (getD cells (tagsAt + a) 0)
 
--- the symbols from the i-th on, and the words from address a on
+-- the symbols from the i-th on
 unfoldable pub symbolsFrom : List ℕ → ℕ → List Symbol
 symbolsFrom cells i = map (symbolIn cells) (range i (getD cells 0 0))
 
-unfoldable pub wordsFrom : List ℕ → ℕ → List Word
-wordsFrom cells a = map (wordIn cells) (range a 4096)
+-- the words below address a
+unfoldable pub wordsBelow : List ℕ → ℕ → List Word
+wordsBelow cells a = map (wordIn cells) (range 0 a)
 
 unfoldable pub decode : List ℕ → State
-decode cells = state (symbolsFrom cells 0) (wordsFrom cells 0) (getD cells 1 0) (markOf (getD cells 2 0))
+decode cells = state (symbolsFrom cells 0) (wordsBelow cells 4096) (getD cells 1 0) (markOf (getD cells 2 0))
 
 -- ---- what a call is lent, and what it leaves
 

@@ -1,4 +1,5 @@
 // State memory as a whole.
+use crate::layout::SIZE;
 ghost use mathlib.Core.Path.{_≡_};
 ghost use lib.ListN.{length};
 ghost use Rattle.rules.specs.State.{fresh};
@@ -11,7 +12,7 @@ pub fn reset(state: &mut [u64])
     ensures { λ r. ⌜ Holds (now (state .exit)) fresh ⌝ }
 {
     let mut i = 0;
-    while i < 8708 {
+    while i < SIZE {
         state[i] = 0;
         i += 1;
     }

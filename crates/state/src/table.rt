@@ -1,8 +1,13 @@
 // The table of symbols.
+use crate::layout::DEFINED;
+use crate::layout::MOST_SYMBOLS;
+use crate::layout::NAMES;
+use crate::layout::VALUES;
 ghost use Prim.Native.Nat.{_<_};
 ghost use mathlib.Core.Path.{_≡_};
 ghost use lib.ListN.{length, getD};
 ghost use Rattle.rules.specs.State.{isDefined, isUndefined, undefinedOnly};
+ghost use Rattle.rules.specs.Image.{valueOf};
 ghost use Rattle.rules.specs.Placing.{define as defined-in, mention as mentioned-in};
 ghost use Rattle.state.specs.Layout.{decode};
 ghost use Rattle.state.specs.Good.{Good};
@@ -16,7 +21,7 @@ pub fn find(state: &[u64], name: u64) -> usize
     let n = state[0] as usize;
     let mut i = 0;
     while i < n {
-        if state[4 + i] == name {
+        if state[NAMES + i] == name {
             return i;
         }
         i += 1;
@@ -31,7 +36,7 @@ pub fn is_defined(state: &[u64], name: u64) -> bool
     let i = find(state, name);
     let n = state[0] as usize;
     if i < n {
-        return state[260 + i] != 0;
+        return state[VALUES + i] != 0;
     }
     false
 }
@@ -43,7 +48,7 @@ pub fn is_undefined(state: &[u64], name: u64) -> bool
     let i = find(state, name);
     let n = state[0] as usize;
     if i < n {
-        return state[260 + i] == 0;
+        return state[VALUES + i] == 0;
     }
     false
 }
@@ -55,11 +60,11 @@ pub fn define(state: &mut [u64], name: u64, value: u16) -> bool
 {
     let i = find(state, name);
     let n = state[0] as usize;
-    if i == 256 {
+    if i == MOST_SYMBOLS {
         return false;
     }
-    state[4 + i] = name;
-    state[260 + i] = value as u64 + 65536;
+    state[NAMES + i] = name;
+    state[VALUES + i] = value as u64 + DEFINED;
     if i < n {
         return true;
     }
@@ -72,17 +77,17 @@ pub fn mention_at(state: &mut [u64], name: u64) -> usize
     requires { ⌜ Good (now state) ⌝ }
     ensures { λ r. ⌜ MentionedAt name (decode (now (state .entry))) r (now (state .exit)) ⌝ }
 {
-    let i = find(state, name);
+    let at = find(state, name);
     let n = state[0] as usize;
-    if i < n {
-        return i;
+    if at < n {
+        return at;
     }
-    if i == 256 {
-        return 256;
+    if at == MOST_SYMBOLS {
+        return MOST_SYMBOLS;
     }
-    state[4 + i] = name;
-    state[0] = i as u64 + 1;
-    i
+    state[NAMES + at] = name;
+    state[0] = at as u64 + 1;
+    at
 }
 
 // The same, where only the room counts.
@@ -90,7 +95,7 @@ pub fn mention(state: &mut [u64], name: u64) -> bool
     requires { ⌜ Good (now state) ⌝ }
     ensures { λ r. ⌜ Joined (mentioned-in name (decode (now (state .entry)) .symbols)) (decode (now (state .entry))) r (now (state .exit)) ⌝ }
 {
-    mention_at(state, name) < 256
+    mention_at(state, name) < MOST_SYMBOLS
 }
 
 // A symbol as the listings tell it.
@@ -105,8 +110,8 @@ pub fn symbol_at(state: &[u64], i: usize) -> Listed
     requires { ⌜ i < length (decode (now state) .symbols) ⌝ }
     ensures { λ r. ⌜ r ≡ listed (getD (decode (now (state .entry)) .symbols) i noSymbol) ⌝ }
 {
-    let name = state[4 + i];
-    let v = state[260 + i];
+    let name = state[NAMES + i];
+    let v = state[VALUES + i];
     if v == 0 {
         return Listed {
             name,
@@ -116,9 +121,22 @@ pub fn symbol_at(state: &[u64], i: usize) -> Listed
     }
     Listed {
         name,
-        value: v - 65536,
+        value: v - DEFINED,
         defined: 1,
     }
+}
+
+// What a reference to the symbol adds: its value, 0 where it is undefined.
+pub fn value_of(state: &[u64], i: usize) -> u16
+    requires { ⌜ Good (now state) ⌝ }
+    requires { ⌜ i < length (decode (now state) .symbols) ⌝ }
+    ensures { λ r. ⌜ r ≡ valueOf (decode (now (state .entry)) .symbols) i ⌝ }
+{
+    let v = state[VALUES + i];
+    if v == 0 {
+        return 0;
+    }
+    (v - DEFINED) as u16
 }
 
 pub fn undefined_count(state: &[u64]) -> usize
@@ -129,7 +147,7 @@ pub fn undefined_count(state: &[u64]) -> usize
     let mut found = 0;
     let mut i = 0;
     while i < n {
-        if state[260 + i] == 0 {
+        if state[VALUES + i] == 0 {
             found += 1;
         }
         i += 1;
@@ -146,7 +164,7 @@ pub fn undefined_place(state: &[u64], k: u64) -> usize
     let mut more = k;
     let mut i = 0;
     while i < n {
-        if state[260 + i] == 0 {
+        if state[VALUES + i] == 0 {
             if more == 0 {
                 return i;
             }

@@ -1,9 +1,13 @@
 // The program words. An address past the last one holds no word, and nothing is put there.
+use crate::layout::ADDRESSES;
+use crate::layout::LAST_ADDRESS;
+use crate::layout::TAGS;
+use crate::layout::TEXTS;
 ghost use Prim.Native.Nat.{_≤_, _<_};
 ghost use mathlib.Core.Path.{_≡_};
 ghost use lib.ListN.{length, getD, set};
 ghost use Rattle.rules.specs.State.{unplaced, plain, refers, isPlaced, highest as highest-in};
-ghost use Rattle.state.specs.Layout.{decode, textCell, tagCell};
+ghost use Rattle.state.specs.Layout.{decode, textCell};
 ghost use Rattle.state.specs.Good.{Good, Holds, withWords};
 ghost use Rattle.state.specs.Words.{Tagged};
 
@@ -11,21 +15,21 @@ pub fn is_placed(state: &[u64], address: usize) -> bool
     requires { ⌜ Good (now state) ⌝ }
     ensures { λ r. ⌜ r ≡ isPlaced (getD (decode (now (state .entry)) .words) address unplaced) ⌝ }
 {
-    if 4096 <= address {
+    if ADDRESSES <= address {
         return false;
     }
-    state[4612 + address] != 0
+    state[TAGS + address] != 0
 }
 
 pub fn put_plain(state: &mut [u64], address: usize, text: u64)
     requires { ⌜ Good (now state) ⌝ }
     ensures { λ r. ⌜ Holds (now (state .exit)) (withWords (set (decode (now (state .entry)) .words) address (plain text)) (decode (now (state .entry)))) ⌝ }
 {
-    if 4096 <= address {
+    if ADDRESSES <= address {
         return;
     }
-    state[516 + address] = text;
-    state[4612 + address] = 1;
+    state[TEXTS + address] = text;
+    state[TAGS + address] = 1;
 }
 
 pub fn put_reference(state: &mut [u64], address: usize, text: u64, symbol: usize)
@@ -33,11 +37,11 @@ pub fn put_reference(state: &mut [u64], address: usize, text: u64, symbol: usize
     requires { ⌜ symbol < length (decode (now state) .symbols) ⌝ }
     ensures { λ r. ⌜ Holds (now (state .exit)) (withWords (set (decode (now (state .entry)) .words) address (refers text symbol)) (decode (now (state .entry)))) ⌝ }
 {
-    if 4096 <= address {
+    if ADDRESSES <= address {
         return;
     }
-    state[516 + address] = text;
-    state[4612 + address] = 2 + symbol as u64;
+    state[TEXTS + address] = text;
+    state[TAGS + address] = 2 + symbol as u64;
 }
 
 // The text of a word, 0 where none is placed.
@@ -46,7 +50,7 @@ pub fn text(state: &[u64], address: usize) -> u64
     requires { ⌜ address < 4096 ⌝ }
     ensures { λ r. ⌜ r ≡ textCell (getD (decode (now (state .entry)) .words) address unplaced) ⌝ }
 {
-    state[516 + address]
+    state[TEXTS + address]
 }
 
 // 0 for no word, 1 for a plain one, 2 + i for one that refers to symbol i.
@@ -55,7 +59,7 @@ pub fn tag(state: &[u64], address: usize) -> u64
     requires { ⌜ address < 4096 ⌝ }
     ensures { λ r. ⌜ Tagged (decode (now (state .entry))) address r ⌝ }
 {
-    state[4612 + address]
+    state[TAGS + address]
 }
 
 // The highest address that refers to a symbol, 65,535 if none.
@@ -65,12 +69,13 @@ pub fn highest(state: &[u64], symbol: usize) -> usize
     ensures { λ r. ⌜ r ≡ highest-in symbol (decode (now (state .entry)) .words) ⌝ }
 {
     let wanted = 2 + symbol as u64;
-    let mut a = 4096;
-    while 0 < a {
-        a -= 1;
-        if state[4612 + a] == wanted {
+    let mut i = 0;
+    while i < ADDRESSES {
+        let a = LAST_ADDRESS - i;
+        if state[TAGS + a] == wanted {
             return a;
         }
+        i += 1;
     }
     65535
 }

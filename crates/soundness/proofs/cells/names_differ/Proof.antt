@@ -36,7 +36,7 @@ unlike-from-requires c κs = omega arith
 
 returns : tie.Need-returns Inv-loop μ-loop
 unfolding namesDiffer
-returns c = each-stop (differsAt (c .before .before .before .before .before .before .args .state .now) (c .before .before .before .before .before .before .args .n)) (c .before .before .before .before .loop .i) (c .before .before .before .before .before .before .args .n) _ (c .before .before .before .before .loop .inv) (omega arith) (refused _ _ (c .before .unlike-from .ensures) (c .if1 .taken))
+returns c = each-stop (differsAt (c .before .before .before .before .before .before .args .state .now) _) _ _ _ (c .before .before .before .before .loop .inv) (omega arith) (refused _ _ (c .before .unlike-from .ensures) (c .if1 .taken))
 
 add-i : tie.Need-add-i Inv-loop μ-loop
 add-i c = omega arith
@@ -46,11 +46,11 @@ loop-less c = omega arith
 
 loop-again : tie.Need-loop-again Inv-loop μ-loop
 unfolding namesDiffer
-loop-again c = each-on (differsAt (c .before .before .before .before .before .before .args .state .now) (c .before .before .before .before .before .before .args .n)) (c .before .before .before .before .loop .i) (c .before .before .before .before .before .before .args .n) _ (c .before .before .before .before .loop .inv) (omega arith) (passed _ _ (c .before .unlike-from .ensures) (c .if1 .left))
+loop-again c = each-on (differsAt (c .before .before .before .before .before .before .args .state .now) _) _ _ _ (c .before .before .before .before .loop .inv) (omega arith) (passed _ _ (c .before .unlike-from .ensures) (c .if1 .left))
 
 returns-2 : tie.Need-returns-2 Inv-loop μ-loop
 unfolding namesDiffer
-returns-2 c = each-end (differsAt (c .before .before .before .args .state .now) (c .before .before .before .args .n)) (c .before .loop .i) (c .before .before .before .args .n) _ (c .before .loop .inv) (omega arith)
+returns-2 c = each-end (differsAt (c .before .before .before .args .state .now) _) _ _ _ (c .before .loop .inv) (omega arith)
 
 pub names-differ-spec : {M : Type 1} → statement M
 names-differ-spec =

@@ -33,7 +33,7 @@ is-packed-requires c κs = omega arith
 
 returns : tie.Need-returns Inv-loop μ-loop
 unfolding symbolsSound
-returns c = each-stop (symbolSoundAt (c .before .before .before .before .before .before .args .state .now)) (c .before .before .before .before .loop .i) (c .before .before .before .before .before .before .args .n) _ (c .before .before .before .before .loop .inv) (omega arith) (rw (refused _ _ (c .before .is-packed .ensures) (c .if1 .taken)))
+returns c = each-stop (symbolSoundAt (c .before .before .before .before .before .before .args .state .now)) _ _ _ (c .before .before .before .before .loop .inv) (omega arith) (rw (refused _ _ (c .before .is-packed .ensures) (c .if1 .taken)))
 
 add-value-sound : tie.Need-add-value-sound Inv-loop μ-loop
 add-value-sound c = omega arith
@@ -49,7 +49,7 @@ value-sound-requires c κs = omega arith
 
 returns-2 : tie.Need-returns-2 Inv-loop μ-loop
 unfolding symbolsSound
-returns-2 c = each-stop (symbolSoundAt (c .before .before .before .before .before .before .before .before .before .args .state .now)) (c .before .before .before .before .before .before .before .loop .i) (c .before .before .before .before .before .before .before .before .before .args .n) _ (c .before .before .before .before .before .before .before .loop .inv) (omega arith) (rw (passed _ _ (c .before .before .before .before .is-packed .ensures) (c .before .before .before .if1 .left)) (refused _ _ (c .before .value-sound .ensures) (c .if2 .taken)))
+returns-2 c = each-stop (symbolSoundAt (c .before .before .before .before .before .before .before .before .before .args .state .now)) _ _ _ (c .before .before .before .before .before .before .before .loop .inv) (omega arith) (rw (passed _ _ (c .before .before .before .before .is-packed .ensures) (c .before .before .before .if1 .left)) (refused _ _ (c .before .value-sound .ensures) (c .if2 .taken)))
 
 add-i : tie.Need-add-i Inv-loop μ-loop
 add-i c = omega arith
@@ -59,11 +59,11 @@ loop-less c = omega arith
 
 loop-again : tie.Need-loop-again Inv-loop μ-loop
 unfolding symbolsSound
-loop-again c = each-on (symbolSoundAt (c .before .before .before .before .before .before .before .before .before .args .state .now)) (c .before .before .before .before .before .before .before .loop .i) (c .before .before .before .before .before .before .before .before .before .args .n) _ (c .before .before .before .before .before .before .before .loop .inv) (omega arith) (both _ _ (passed _ _ (c .before .before .before .before .is-packed .ensures) (c .before .before .before .if1 .left)) (passed _ _ (c .before .value-sound .ensures) (c .if2 .left)))
+loop-again c = each-on (symbolSoundAt (c .before .before .before .before .before .before .before .before .before .args .state .now)) _ _ _ (c .before .before .before .before .before .before .before .loop .inv) (omega arith) (both _ _ (passed _ _ (c .before .before .before .before .is-packed .ensures) (c .before .before .before .if1 .left)) (passed _ _ (c .before .value-sound .ensures) (c .if2 .left)))
 
 returns-3 : tie.Need-returns-3 Inv-loop μ-loop
 unfolding symbolsSound
-returns-3 c = each-end (symbolSoundAt (c .before .before .before .args .state .now)) (c .before .loop .i) (c .before .before .before .args .n) _ (c .before .loop .inv) (omega arith)
+returns-3 c = each-end (symbolSoundAt (c .before .before .before .args .state .now)) _ _ _ (c .before .loop .inv) (omega arith)
 
 pub symbols-sound-spec : {M : Type 1} → statement M
 symbols-sound-spec =

@@ -29,7 +29,7 @@ shared-slice-read-if1 c = omega arith
 
 returns : tie.Need-returns Inv-loop μ-loop
 unfolding unlike
-returns c = each-stop (unlikeAt (c .before .before .before .before .args .state .now) (c .before .before .before .before .args .x)) (c .before .before .before .loop .j) (c .before .before .before .before .args .n) _ (c .before .before .before .loop .inv) (omega arith) (ap not (eq-eqb _ _ (c .if1 .taken)))
+returns c = each-stop (unlikeAt (c .before .before .before .before .args .state .now) _) _ _ _ (c .before .before .before .loop .inv) (omega arith) (ap not (eq-eqb _ _ (c .if1 .taken)))
 
 add-j : tie.Need-add-j Inv-loop μ-loop
 add-j c = omega arith
@@ -39,11 +39,11 @@ loop-less c = omega arith
 
 loop-again : tie.Need-loop-again Inv-loop μ-loop
 unfolding unlike
-loop-again c = each-on (unlikeAt (c .before .before .before .before .args .state .now) (c .before .before .before .before .args .x)) (c .before .before .before .loop .j) (c .before .before .before .before .args .n) _ (c .before .before .before .loop .inv) (omega arith) (ap not (ne-eqb _ _ (c .if1 .left)))
+loop-again c = each-on (unlikeAt (c .before .before .before .before .args .state .now) _) _ _ _ (c .before .before .before .loop .inv) (omega arith) (ap not (ne-eqb _ _ (c .if1 .left)))
 
 returns-2 : tie.Need-returns-2 Inv-loop μ-loop
 unfolding unlike
-returns-2 c = each-end (unlikeAt (c .before .before .args .state .now) (c .before .before .args .x)) (c .before .loop .j) (c .before .before .args .n) _ (c .before .loop .inv) (omega arith)
+returns-2 c = each-end (unlikeAt (c .before .before .args .state .now) _) _ _ _ (c .before .loop .inv) (omega arith)
 
 pub unlike-from-spec : {M : Type 1} → statement M
 unlike-from-spec =

@@ -1,4 +1,4 @@
-use borrow.Author.Needs.{needs}
+use native.Mathlib.Omega.{arith}
 use Rattle.soundness.specs.Checks.{wordSound}
 use borrow.Author.Tests.{eq-eqb, ne-eqb}
 use Rattle.soundness.proofs.cells.word_sound.Statement.{statement}
@@ -9,7 +9,7 @@ unfolding wordSound
 returns c = rw (eq-eqb _ 0 (c .if1 .taken))
 
 add-result : tie.Need-add-result
-add-result c = search needs
+add-result c = omega arith
 
 returns-2 : tie.Need-returns-2
 unfolding wordSound

@@ -42,7 +42,7 @@ word-sound-requires c κs = omega arith
 
 returns : tie.Need-returns Inv-loop μ-loop
 unfolding wordsSound
-returns c = each-stop (wordSoundAt (c .before .before .before .before .before .before .before .args .state .now) (c .before .before .before .before .before .before .before .args .n)) (c .before .before .before .before .before .loop .a) 4096 _ (c .before .before .before .before .before .loop .inv) (omega arith) (refused _ _ (c .before .word-sound .ensures) (c .if1 .taken))
+returns c = each-stop _ _ _ _ (c .before .before .before .before .before .loop .inv) (omega arith) (refused _ _ (c .before .word-sound .ensures) (c .if1 .taken))
 
 add-a : tie.Need-add-a Inv-loop μ-loop
 add-a c = omega arith
@@ -52,11 +52,11 @@ loop-less c = omega arith
 
 loop-again : tie.Need-loop-again Inv-loop μ-loop
 unfolding wordsSound
-loop-again c = each-on (wordSoundAt (c .before .before .before .before .before .before .before .args .state .now) (c .before .before .before .before .before .before .before .args .n)) (c .before .before .before .before .before .loop .a) 4096 _ (c .before .before .before .before .before .loop .inv) (omega arith) (passed _ _ (c .before .word-sound .ensures) (c .if1 .left))
+loop-again c = each-on _ _ _ _ (c .before .before .before .before .before .loop .inv) (omega arith) (passed _ _ (c .before .word-sound .ensures) (c .if1 .left))
 
 returns-2 : tie.Need-returns-2 Inv-loop μ-loop
 unfolding wordsSound
-returns-2 c = each-end (wordSoundAt (c .before .before .before .args .state .now) (c .before .before .before .args .n)) (c .before .loop .a) 4096 _ (c .before .loop .inv) (omega arith)
+returns-2 c = each-end _ _ _ _ (c .before .loop .inv) (omega arith)
 
 pub words-sound-spec : {M : Type 1} → statement M
 words-sound-spec =

@@ -24,7 +24,7 @@ shared-slice-read-if1 c = omega arith
 
 returns : tie.Need-returns Inv-loop μ-loop
 unfolding zeroBetween
-returns c = each-stop (zeroAt (c .before .before .before .before .args .state .now)) (c .before .before .before .loop .k) (c .before .before .before .before .args .to) _ (c .before .before .before .loop .inv) (omega arith) (ne-eqb _ 0 (c .if1 .taken))
+returns c = each-stop (zeroAt (c .before .before .before .before .args .state .now)) _ _ _ (c .before .before .before .loop .inv) (omega arith) (ne-eqb _ 0 (c .if1 .taken))
 
 add-k : tie.Need-add-k Inv-loop μ-loop
 add-k c = omega arith
@@ -34,11 +34,11 @@ loop-less c = omega arith
 
 loop-again : tie.Need-loop-again Inv-loop μ-loop
 unfolding zeroBetween
-loop-again c = each-on (zeroAt (c .before .before .before .before .args .state .now)) (c .before .before .before .loop .k) (c .before .before .before .before .args .to) _ (c .before .before .before .loop .inv) (omega arith) (eq-eqb _ 0 (c .if1 .left))
+loop-again c = each-on (zeroAt (c .before .before .before .before .args .state .now)) _ _ _ (c .before .before .before .loop .inv) (omega arith) (eq-eqb _ 0 (c .if1 .left))
 
 returns-2 : tie.Need-returns-2 Inv-loop μ-loop
 unfolding zeroBetween
-returns-2 c = each-end (zeroAt (c .before .before .args .state .now)) (c .before .loop .k) (c .before .before .args .to) _ (c .before .loop .inv) (omega arith)
+returns-2 c = each-end (zeroAt (c .before .before .args .state .now)) _ _ _ (c .before .loop .inv) (omega arith)
 
 pub zero-between-spec : {M : Type 1} → statement M
 zero-between-spec =

@@ -1,4 +1,3 @@
-use borrow.Author.Needs.{needs}
 use Rattle.soundness.proofs.SoundLaws.{wrong-length, fails, last-decides, header-few, header-from, names-from, values-from, symbols-from, differ-from}
 use mathlib.Core.Path.{_∙_}
 use Rattle.state.proofs.BoolLaws.{refused, passed}
@@ -10,40 +9,40 @@ returns : tie.Need-returns
 returns c = wrong-length _ (c .if1 .taken)
 
 header-sound-requires : tie.Need-header-sound-requires
-header-sound-requires c κs = search needs
+header-sound-requires c κs = omega arith
 
 returns-2 : tie.Need-returns-2
 returns-2 c = fails (c .before .before .before .before .args .state .now) (c .before .before .if1 .left) _ (header-from _) (refused _ _ (c .before .header-sound .ensures) (c .if2 .taken))
 
 shared-slice-read-n : tie.Need-shared-slice-read-n
-shared-slice-read-n c = search needs
+shared-slice-read-n c = omega arith
 
 add-zero-between : tie.Need-add-zero-between
-add-zero-between c = omega (arith, header-few (c .before .before .before .before .before .args .state .now) (passed _ _ (c .before .before .header-sound .ensures) (c .before .if2 .left)))
+add-zero-between c = omega (arith, header-few _ (passed _ _ (c .before .before .header-sound .ensures) (c .before .if2 .left)))
 
 zero-between-requires : tie.Need-zero-between-requires
-zero-between-requires c κs = search needs
+zero-between-requires c κs = omega arith
 
 returns-3 : tie.Need-returns-3
-returns-3 c = fails (c .before .before .before .before .before .before .before .args .state .now) (c .before .before .before .before .before .if1 .left) _ (names-from _) (refused _ _ (c .before .zero-between .ensures) (c .if3 .taken))
+returns-3 c = fails _ (c .before .before .before .before .before .if1 .left) _ (names-from _) (refused _ _ (c .before .zero-between .ensures) (c .if3 .taken))
 
 add-zero-between-2 : tie.Need-add-zero-between-2
 add-zero-between-2 c = omega (arith, header-few (c .before .before .before .before .before .before .before .args .state .now) (passed _ _ (c .before .before .before .before .header-sound .ensures) (c .before .before .before .if2 .left)))
 
 zero-between-requires-2 : tie.Need-zero-between-requires-2
-zero-between-requires-2 c κs = search needs
+zero-between-requires-2 c κs = omega arith
 
 returns-4 : tie.Need-returns-4
 returns-4 c = fails (c .before .before .before .before .before .before .before .before .before .args .state .now) (c .before .before .before .before .before .before .before .if1 .left) _ (values-from _) (refused _ _ (c .before .zero-between2 .ensures) (c .if4 .taken))
 
 symbols-sound-requires : tie.Need-symbols-sound-requires
-symbols-sound-requires c κs = omega (arith, header-few (c .before .before .before .before .before .before .before .before .before .args .state .now) (passed _ _ (c .before .before .before .before .before .before .header-sound .ensures) (c .before .before .before .before .before .if2 .left)))
+symbols-sound-requires c κs = omega (arith, header-few _ (passed _ _ (c .before .before .before .before .before .before .header-sound .ensures) (c .before .before .before .before .before .if2 .left)))
 
 returns-5 : tie.Need-returns-5
 returns-5 c = fails (c .before .before .before .before .before .before .before .before .before .before .before .args .state .now) (c .before .before .before .before .before .before .before .before .before .if1 .left) _ (symbols-from _) (refused _ _ (c .before .symbols-sound .ensures) (c .if5 .taken))
 
 names-differ-requires : tie.Need-names-differ-requires
-names-differ-requires c κs = omega (arith, header-few (c .before .before .before .before .before .before .before .before .before .before .before .args .state .now) (passed _ _ (c .before .before .before .before .before .before .before .before .header-sound .ensures) (c .before .before .before .before .before .before .before .if2 .left)))
+names-differ-requires c κs = omega (arith, header-few _ (passed _ _ (c .before .before .before .before .before .before .before .before .header-sound .ensures) (c .before .before .before .before .before .before .before .if2 .left)))
 
 returns-6 : tie.Need-returns-6
 returns-6 c = fails (c .before .before .before .before .before .before .before .before .before .before .before .before .before .args .state .now) (c .before .before .before .before .before .before .before .before .before .before .before .if1 .left) _ (differ-from _) (refused _ _ (c .before .names-differ .ensures) (c .if6 .taken))
@@ -54,7 +53,7 @@ words-sound-requires c κs = omega (arith, header-few (c .before .before .before
 returns-7 : tie.Need-returns-7
 returns-7 c =
     c .words-sound .ensures
-    ∙ last-decides (c .before .before .before .before .before .before .before .before .before .before .before .before .before .before .args .state .now) (c .before .before .before .before .before .before .before .before .before .before .before .before .if1 .left) (c .before .before .before .before .before .before .before .before .before .before .before .before .before .shared-slice-known .given)
+    ∙ last-decides _ (c .before .before .before .before .before .before .before .before .before .before .before .before .if1 .left) (c .before .before .before .before .before .before .before .before .before .before .before .before .before .shared-slice-known .given)
     (passed _ _ (c .before .before .before .before .before .before .before .before .before .before .before .header-sound .ensures) (c .before .before .before .before .before .before .before .before .before .before .if2 .left))
     (passed _ _ (c .before .before .before .before .before .before .before .before .zero-between .ensures) (c .before .before .before .before .before .before .before .if3 .left))
     (passed _ _ (c .before .before .before .before .before .before .zero-between2 .ensures) (c .before .before .before .before .before .if4 .left))

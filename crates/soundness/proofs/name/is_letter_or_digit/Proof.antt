@@ -1,11 +1,11 @@
-use borrow.Author.Needs.{needs}
+use native.Mathlib.Omega.{arith}
 use borrow.Author.Tests.{le-leb, lt-leb}
 use mathlib.Core.Path.{sym, _∙_}
 use Rattle.soundness.proofs.name.is_letter_or_digit.Statement.{statement}
 use Rattle.soundness.proofs.name.is_letter_or_digit.Tie as tie
 
 is-letter-requires : tie.Need-is-letter-requires
-is-letter-requires c κs = search needs
+is-letter-requires c κs = omega arith
 
 returns : tie.Need-returns
 returns c = rw (sym (c .before .is-letter .ensures) ∙ c .if1 .taken)

@@ -15,7 +15,7 @@ abbrev μ-loop : tie.MeasureT-loop
 μ-loop state₀ i₀ state i = size - i
 
 loop-holds : tie.Need-loop-holds Inv-loop μ-loop
-loop-holds c = (omega arith, c .pre, cleared-none (c .args .state .now))
+loop-holds c = (omega arith, c .pre, cleared-none _)
 
 mul-state : tie.Need-mul-state Inv-loop μ-loop
 mul-state c = omega arith
@@ -30,13 +30,13 @@ loop-less : tie.Need-loop-less Inv-loop μ-loop
 loop-less c = omega arith
 
 loop-again : tie.Need-loop-again Inv-loop μ-loop
-loop-again c = (omega arith, simp length-set (omega arith), cleared-more (c .before .before .args .state .now) (c .before .loop .state) (c .before .loop .i) (omega arith) (c .before .loop .inv .2))
+loop-again c = (omega arith, simp length-set (omega arith), cleared-more _ _ _ (omega arith) (c .before .loop .inv .2))
 
 same-length : tie.Need-same-length Inv-loop μ-loop
 same-length c = omega arith
 
 returns : tie.Need-returns Inv-loop μ-loop
-returns c = cleared-all (c .before .before .args .state .now) (c .before .loop .state) (c .before .loop .i) (c .before .before .pre) (omega arith) (c .before .loop .inv .2)
+returns c = cleared-all _ _ _ (c .before .before .pre) (omega arith) (c .before .loop .inv .2)
 
 pub reset-spec : {M : Type 1} → statement M
 reset-spec =

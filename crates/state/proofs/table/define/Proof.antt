@@ -9,31 +9,31 @@ find-requires : tie.Need-find-requires
 find-requires c κs = search needs
 
 slice-read-n : tie.Need-slice-read-n
-slice-read-n c = search needs
+slice-read-n c = omega arith
 
 same-length : tie.Need-same-length
-same-length c = search needs
+same-length c = omega arith
 
 returns : tie.Need-returns
-returns c = define-full (c .before .before .before .before .before .args .state .now) (c .before .before .before .before .before .pre) (c .before .before .before .before .before .args .name) (c .before .before .find .result) (c .before .before .find .ensures) (c .before .before .before .before .before .args .value) (c .if1 .taken)
+returns c = define-full (c .before .before .before .before .before .pre) (c .before .before .find .ensures) (c .before .before .before .before .before .args .value) (c .if1 .taken)
 
 add-state : tie.Need-add-state
-add-state c = search needs
+add-state c = omega arith
 
 mul-state : tie.Need-mul-state
-mul-state c = search needs
+mul-state c = omega arith
 
 slice-write-state : tie.Need-slice-write-state
-slice-write-state c = search needs
+slice-write-state c = omega arith
 
 add-state-2 : tie.Need-add-state-2
-add-state-2 c = search needs
+add-state-2 c = omega arith
 
 add-state-3 : tie.Need-add-state-3
-add-state-3 c = search needs
+add-state-3 c = omega arith
 
 mul-state-2 : tie.Need-mul-state-2
-mul-state-2 c = search needs
+mul-state-2 c = omega arith
 
 slice-write-state-2 : tie.Need-slice-write-state-2
 slice-write-state-2 c = simp length-set (omega arith)
@@ -42,10 +42,10 @@ same-length-2 : tie.Need-same-length-2
 same-length-2 c = search needs
 
 returns-2 : tie.Need-returns-2
-returns-2 c = define-inside (c .before .before .before .before .before .before .args .state .now) (c .before .before .before .before .before .before .pre) (c .before .before .before .before .before .before .args .name) (c .before .before .before .find .result) (c .before .before .before .find .ensures) (c .before .before .before .before .before .before .args .value) (omega arith) (c .before .if1 .left) (c .if2 .taken)
+returns-2 c = define-inside (c .before .before .before .before .before .before .pre) (c .before .before .before .find .ensures) _ (omega arith) (c .before .if1 .left) (c .if2 .taken)
 
 add-state-4 : tie.Need-add-state-4
-add-state-4 c = search needs
+add-state-4 c = omega arith
 
 slice-write-state-3 : tie.Need-slice-write-state-3
 slice-write-state-3 c = search needs
@@ -54,7 +54,7 @@ same-length-3 : tie.Need-same-length-3
 same-length-3 c = search needs
 
 returns-3 : tie.Need-returns-3
-returns-3 c = define-behind (c .before .before .before .before .before .before .args .state .now) (c .before .before .before .before .before .before .pre) (c .before .before .before .before .before .before .args .name) (c .before .before .before .find .result) (c .before .before .before .find .ensures) (c .before .before .before .before .before .before .args .value) (omega arith) (c .before .if1 .left) (c .if2 .left)
+returns-3 c = define-behind (c .before .before .before .before .before .before .pre) (c .before .before .before .find .ensures) _ (omega arith) (c .before .if1 .left) (c .if2 .left)
 
 pub define-spec : {M : Type 1} → statement M
 define-spec =

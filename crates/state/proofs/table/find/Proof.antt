@@ -32,7 +32,7 @@ shared-slice-read-if1 : tie.Need-shared-slice-read-if1 Inv-loop μ-loop
 shared-slice-read-if1 c = omega arith
 
 returns : tie.Need-returns Inv-loop μ-loop
-returns c = omega (arith, count-is (c .before .before .before .before .before .args .state .now), place-found (c .before .before .before .before .before .args .state .now) (c .before .before .before .loop .i) (c .before .before .before .before .before .args .name) (omega arith) (c .if1 .taken))
+returns c = omega (arith, count-is (c .before .before .before .before .before .args .state .now), place-found (c .before .before .before .before .before .args .state .now) _ _ (omega arith) (c .if1 .taken))
 
 add-i : tie.Need-add-i Inv-loop μ-loop
 add-i c = omega arith
@@ -41,7 +41,7 @@ loop-less : tie.Need-loop-less Inv-loop μ-loop
 loop-less c = omega arith
 
 loop-again : tie.Need-loop-again Inv-loop μ-loop
-loop-again c = (omega arith, omega arith, omega (arith, place-on (c .before .before .before .before .before .args .state .now) (c .before .before .before .loop .i) (c .before .before .before .before .before .args .name) (omega arith) (c .if1 .left)))
+loop-again c = (omega arith, omega arith, omega (arith, place-on (c .before .before .before .before .before .args .state .now) _ _ (omega arith) (c .if1 .left)))
 
 returns-2 : tie.Need-returns-2 Inv-loop μ-loop
 returns-2 c = omega (arith, count-is (c .before .before .before .args .state .now), place-end (c .before .before .before .args .state .now) (c .before .loop .i) (c .before .before .before .args .name) (omega arith))

@@ -1,4 +1,5 @@
 use borrow.Author.Needs.{needs}
+use native.Mathlib.Omega.{arith}
 use Rattle.state.proofs.BoolLaws.{not-not}
 use Rattle.state.proofs.TableLaws.{name-there, name-absent}
 use Rattle.rules.specs.State.{isUndefined}
@@ -11,24 +12,24 @@ find-requires : tie.Need-find-requires
 find-requires c κs = search needs
 
 shared-slice-read-n : tie.Need-shared-slice-read-n
-shared-slice-read-n c = search needs
+shared-slice-read-n c = omega arith
 
 add-result : tie.Need-add-result
-add-result c = search needs
+add-result c = omega arith
 
 mul-result : tie.Need-mul-result
-mul-result c = search needs
+mul-result c = omega arith
 
 shared-slice-read-result : tie.Need-shared-slice-read-result
-shared-slice-read-result c = search needs
+shared-slice-read-result c = omega arith
 
 returns : tie.Need-returns
 unfolding isUndefined
-returns c = sym (name-there (c .before .before .before .before .before .args .state .now) (c .before .before .before .before .before .pre) (c .before .before .before .before .before .args .name) (c .before .before .before .find .result) (c .before .before .before .find .ensures) (λ s. not (s .defined)) (c .before .if1 .taken) ∙ not-not _)
+returns c = sym (name-there (c .before .before .before .before .before .pre) (c .before .before .before .find .ensures) (λ s. not (s .defined)) (c .before .if1 .taken) ∙ not-not _)
 
 returns-2 : tie.Need-returns-2
 unfolding isUndefined
-returns-2 c = sym (name-absent (c .before .before .before .before .args .state .now) (c .before .before .before .before .pre) (c .before .before .before .before .args .name) (c .before .before .find .result) (c .before .before .find .ensures) (λ s. not (s .defined)) (c .if1 .left))
+returns-2 c = sym (name-absent (c .before .before .before .before .pre) (c .before .before .find .ensures) (λ s. not (s .defined)) (c .if1 .left))
 
 pub is-undefined-spec : {M : Type 1} → statement M
 is-undefined-spec =

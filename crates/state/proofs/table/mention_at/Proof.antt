@@ -1,4 +1,5 @@
 use borrow.Author.Needs.{needs}
+use native.Mathlib.Omega.{arith}
 use Rattle.state.proofs.TableLaws.{mention-inside, mention-full, mention-behind}
 use Rattle.state.proofs.table.mention_at.Statement.{statement}
 use Rattle.state.proofs.table.mention_at.Tie as tie
@@ -7,31 +8,31 @@ find-requires : tie.Need-find-requires
 find-requires c κs = search needs
 
 slice-read-n : tie.Need-slice-read-n
-slice-read-n c = search needs
+slice-read-n c = omega arith
 
 same-length : tie.Need-same-length
-same-length c = search needs
+same-length c = omega arith
 
 returns : tie.Need-returns
-returns c = mention-inside (c .before .before .before .before .before .args .state .now) (c .before .before .before .before .before .pre) (c .before .before .before .before .before .args .name) (c .before .before .find .result) (c .before .before .find .ensures) (c .if1 .taken)
+returns c = mention-inside (c .before .before .before .before .before .pre) (c .before .before .find .ensures) (c .if1 .taken)
 
 same-length-2 : tie.Need-same-length-2
-same-length-2 c = search needs
+same-length-2 c = omega arith
 
 returns-2 : tie.Need-returns-2
-returns-2 c = mention-full (c .before .before .before .before .before .before .args .state .now) (c .before .before .before .before .before .before .pre) (c .before .before .before .before .before .before .args .name) (c .before .before .before .find .result) (c .before .before .before .find .ensures) (c .before .if1 .left) (c .if2 .taken)
+returns-2 c = mention-full (c .before .before .before .before .before .before .pre) (c .before .before .before .find .ensures) (c .before .if1 .left) (c .if2 .taken)
 
 add-state : tie.Need-add-state
-add-state c = search needs
+add-state c = omega arith
 
 mul-state : tie.Need-mul-state
-mul-state c = search needs
+mul-state c = omega arith
 
 slice-write-state : tie.Need-slice-write-state
-slice-write-state c = search needs
+slice-write-state c = omega arith
 
 add-state-2 : tie.Need-add-state-2
-add-state-2 c = search needs
+add-state-2 c = omega arith
 
 slice-write-state-2 : tie.Need-slice-write-state-2
 slice-write-state-2 c = search needs
@@ -40,7 +41,7 @@ same-length-3 : tie.Need-same-length-3
 same-length-3 c = search needs
 
 returns-3 : tie.Need-returns-3
-returns-3 c = mention-behind (c .before .before .before .before .before .before .args .state .now) (c .before .before .before .before .before .before .pre) (c .before .before .before .before .before .before .args .name) (c .before .before .before .find .result) (c .before .before .before .find .ensures) (c .before .if1 .left) (c .if2 .left)
+returns-3 c = mention-behind (c .before .before .before .before .before .before .pre) (c .before .before .before .find .ensures) (c .before .if1 .left) (c .if2 .left)
 
 pub mention-at-spec : {M : Type 1} → statement M
 mention-at-spec =

@@ -46,8 +46,8 @@ loop-less c = omega arith
 loop-again : tie.Need-loop-again Inv-loop μ-loop
 loop-again c =
     ⊎-elim
-    (λ w. (omega arith, omega arith, omega arith, omega (arith, undefined-here (c .before .before .before .before .before .args .state .now) (c .before .before .before .loop .i) (omega arith) (w .0 .taken))))
-    (λ w. (omega arith, omega arith, omega arith, omega (arith, undefined-not (c .before .before .before .before .before .args .state .now) (c .before .before .before .loop .i) (omega arith) (w .0 .left))))
+    (λ w. (omega arith, omega arith, omega arith, omega (arith, undefined-here (c .before .before .before .before .before .args .state .now) _ (omega arith) (w .0 .taken))))
+    (λ w. (omega arith, omega arith, omega arith, omega (arith, undefined-not (c .before .before .before .before .before .args .state .now) _ (omega arith) (w .0 .left))))
     (c .if1 .came)
 
 returns : tie.Need-returns Inv-loop μ-loop

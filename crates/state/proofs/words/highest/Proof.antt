@@ -1,25 +1,24 @@
-use Rattle.state.proofs.WordLaws.{wordsBelow, highest-all, highest-here, highest-lower, highest-none}
-use Rattle.state.specs.Layout.{decode}
+use Rattle.state.proofs.WordLaws.{highest-all, highest-here, highest-lower, highest-none}
+use Rattle.state.specs.Layout.{wordsBelow, decode}
 use Rattle.rules.specs.State.{highest}
 use native.Mathlib.Omega.{arith}
 use mathlib.Core.Path.{_≡_, refl}
-use Prim.Native.Nat.{_+_, _≤_}
+use Prim.Native.Nat.{_+_, _-_}
 use Rattle.state.proofs.words.highest.Statement.{statement}
 use Rattle.state.proofs.words.highest.Tie as tie
 
 abbrev Inv-loop : tie.InvT-loop
-Inv-loop state symbol wanted a₀ a = (a ≤ 4096)
-    × (wanted ≡ 2 + symbol)
-    × (highest symbol (wordsBelow state a) ≡ highest symbol (decode state .words))
+Inv-loop state symbol wanted i₀ i = (wanted ≡ 2 + symbol)
+    × (highest symbol (wordsBelow state (4096 - i)) ≡ highest symbol (decode state .words))
 
 abbrev μ-loop : tie.MeasureT-loop
-μ-loop state symbol wanted a₀ a = a
+μ-loop state symbol wanted i₀ i = 4096 - i
 
 add-wanted : tie.Need-add-wanted Inv-loop μ-loop
 add-wanted c = omega arith
 
 loop-holds : tie.Need-loop-holds Inv-loop μ-loop
-loop-holds c = (omega arith, refl, highest-all (c .args .state .now) (c .args .symbol))
+loop-holds c = (refl, highest-all _ _)
 
 sub-a : tie.Need-sub-a Inv-loop μ-loop
 sub-a c = omega arith
@@ -34,16 +33,19 @@ shared-slice-read-if1 : tie.Need-shared-slice-read-if1 Inv-loop μ-loop
 shared-slice-read-if1 c = omega arith
 
 returns : tie.Need-returns Inv-loop μ-loop
-returns c = omega (arith, highest-here (c .before .before .before .before .args .state .now) (c .before .before .before .before .args .symbol) (c .before .before .before .loop .a) (omega arith) (omega (arith, c .if1 .taken)))
+returns c = omega (arith, highest-here (c .before .before .before .before .args .state .now) (c .before .before .before .before .args .symbol) (4095 - (c .before .before .before .loop .i)) (4096 - (c .before .before .before .loop .i)) (omega arith) (omega (arith, c .if1 .taken)))
+
+add-i : tie.Need-add-i Inv-loop μ-loop
+add-i c = omega arith
 
 loop-less : tie.Need-loop-less Inv-loop μ-loop
 loop-less c = omega arith
 
 loop-again : tie.Need-loop-again Inv-loop μ-loop
-loop-again c = (omega arith, omega arith, omega (arith, highest-lower (c .before .before .before .before .args .state .now) (c .before .before .before .before .args .symbol) (c .before .before .before .loop .a) (omega arith) (omega (arith, c .if1 .left))))
+loop-again c = (omega arith, omega (arith, highest-lower (c .before .before .before .before .args .state .now) (c .before .before .before .before .args .symbol) (4095 - (c .before .before .before .loop .i)) (4096 - (c .before .before .before .loop .i)) (omega arith) (4096 - ((c .before .before .before .loop .i) + 1)) (omega arith) (omega (arith, c .if1 .left))))
 
 returns-2 : tie.Need-returns-2 Inv-loop μ-loop
-returns-2 c = omega (arith, highest-none (c .before .before .args .state .now) (c .before .before .args .symbol) (c .before .loop .a) (omega arith))
+returns-2 c = omega (arith, highest-none (c .before .before .args .state .now) (c .before .before .args .symbol) (4096 - c .before .loop .i) (omega arith))
 
 pub highest-spec : {M : Type 1} → statement M
 highest-spec =
@@ -58,6 +60,7 @@ highest-spec =
     mul-if1
     shared-slice-read-if1
     returns
+    add-i
     loop-less
     loop-again
     returns-2)

@@ -7,22 +7,22 @@ use Rattle.state.proofs.words.put_plain.Statement.{statement}
 use Rattle.state.proofs.words.put_plain.Tie as tie
 
 returns : tie.Need-returns
-returns c = word-past (c .before .args .state .now) (c .before .pre) (c .before .args .address) (plain (c .before .args .text)) (plain-sound _ (c .before .args .text) (omega arith)) (c .if1 .taken)
+returns c = word-past (c .before .pre) _ (plain _) (plain-sound _ _ (omega arith)) (c .if1 .taken)
 
 add-state : tie.Need-add-state
-add-state c = search needs
+add-state c = omega arith
 
 mul-state : tie.Need-mul-state
-mul-state c = search needs
+mul-state c = omega arith
 
 slice-write-state : tie.Need-slice-write-state
-slice-write-state c = search needs
+slice-write-state c = omega arith
 
 add-state-2 : tie.Need-add-state-2
-add-state-2 c = search needs
+add-state-2 c = omega arith
 
 mul-state-2 : tie.Need-mul-state-2
-mul-state-2 c = search needs
+mul-state-2 c = omega arith
 
 slice-write-state-2 : tie.Need-slice-write-state-2
 slice-write-state-2 c = simp length-set (omega arith)
@@ -31,7 +31,7 @@ same-length : tie.Need-same-length
 same-length c = search needs
 
 returns-2 : tie.Need-returns-2
-returns-2 c = word-set (c .before .args .state .now) (c .before .pre) (c .before .args .address) (plain (c .before .args .text)) (plain-sound _ (c .before .args .text) (omega arith)) (c .if1 .left)
+returns-2 c = word-set (c .before .pre) _ (plain _) (plain-sound _ _ (omega arith)) (c .if1 .left)
 
 pub put-plain-spec : {M : Type 1} → statement M
 put-plain-spec =

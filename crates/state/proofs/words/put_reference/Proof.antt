@@ -7,25 +7,25 @@ use Rattle.state.proofs.words.put_reference.Statement.{statement}
 use Rattle.state.proofs.words.put_reference.Tie as tie
 
 returns : tie.Need-returns
-returns c = word-past (c .before .args .state .now) (c .before .pre .0) (c .before .args .address) (refers (c .before .args .text) (c .before .args .symbol)) (refers-sound _ (c .before .args .text) (c .before .args .symbol) (omega arith) (c .before .pre .1)) (c .if1 .taken)
+returns c = word-past (c .before .pre .0) _ (refers _ _) (refers-sound _ _ _ (omega arith) (c .before .pre .1)) (c .if1 .taken)
 
 add-state : tie.Need-add-state
-add-state c = search needs
+add-state c = omega arith
 
 mul-state : tie.Need-mul-state
-mul-state c = search needs
+mul-state c = omega arith
 
 slice-write-state : tie.Need-slice-write-state
-slice-write-state c = search needs
+slice-write-state c = omega arith
 
 add-state-2 : tie.Need-add-state-2
-add-state-2 c = search needs
+add-state-2 c = omega arith
 
 add-state-3 : tie.Need-add-state-3
-add-state-3 c = search needs
+add-state-3 c = omega arith
 
 mul-state-2 : tie.Need-mul-state-2
-mul-state-2 c = search needs
+mul-state-2 c = omega arith
 
 slice-write-state-2 : tie.Need-slice-write-state-2
 slice-write-state-2 c = simp length-set (omega arith)
@@ -34,7 +34,7 @@ same-length : tie.Need-same-length
 same-length c = search needs
 
 returns-2 : tie.Need-returns-2
-returns-2 c = word-set (c .before .args .state .now) (c .before .pre .0) (c .before .args .address) (refers (c .before .args .text) (c .before .args .symbol)) (refers-sound _ (c .before .args .text) (c .before .args .symbol) (omega arith) (c .before .pre .1)) (c .if1 .left)
+returns-2 c = word-set (c .before .pre .0) _ (refers _ _) (refers-sound _ _ _ (omega arith) (c .before .pre .1)) (c .if1 .left)
 
 pub put-reference-spec : {M : Type 1} → statement M
 put-reference-spec =
