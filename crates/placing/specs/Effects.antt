@@ -6,8 +6,9 @@ use mathlib.Core.Path.{_≡_}
 use lib.ListN.{length, getD, set, take}
 use lib.Dec.{leb, ltb}
 use Rattle.rules.specs.Text.{any}
+use Rattle.rules.specs.Reading.{Module}
 use Rattle.rules.specs.State.{Symbol, placeOf, Word, plain, refers, State}
-use Rattle.rules.specs.Placing.{Code, entryName, clash, defineAll, mention, mentionAll}
+use Rattle.rules.specs.Placing.{Code, entryName, clash, defineAll, mention, mentionAll, placingFault, placed}
 use Rattle.rules.specs.Calls.{withSymbols}
 use Rattle.rules.specs.declared.line.Entry.{Entry}
 use Rattle.rules.specs.declared.line.Relocation.{Relocation}
@@ -110,3 +111,12 @@ pub record Mentioning (whole : List ℕ) (s₀ : State) (n : ℕ) (at : List ℕ
   pub count : n + length rest ≡ length whole
   pub places : take n at ++ placesOf rest (s .symbols) ≡ placesOf whole (s₀ .symbols)
   pub mentioned-is : mentioned rest s ≡ mentioned whole s₀
+
+-- ---- a module
+
+-- a module was tried: its fault, and its effect where there is none
+pub record Tried (s : State) (m : Module) (r : ℕ) (after : List ℕ) : Type 0 where
+  pub number : r ≡ placingFault s m
+  pub most : r ≤ 14
+  pub good : Good after
+  pub done : r ≡ 0 → decode after ≡ placed s m
