@@ -24,10 +24,7 @@ fn full_fault(parts: &[u64], at: usize, state: &[u64]) -> u64
     requires { ⌜ Good (now state) ⌝ }
     ensures { λ r. ⌜ r ≡ cond (repeated (decode (now (state .entry)) .symbols) (namesIn (partsFrom (now (parts .entry)) at))) 13 14 ⌝ }
 {
-    if duplicates(parts, at, state) {
-        return 13;
-    }
-    14
+    if duplicates(parts, at, state) { 13 } else { 14 }
 }
 
 // Enters the part at cell `at`, if it is an entry.
