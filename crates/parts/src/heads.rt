@@ -19,8 +19,9 @@ pub fn entry_value(head: u64, base: usize) -> usize
     requires { ⌜ base ≤ 4096 ⌝ }
     ensures { λ r. ⌜ r ≡ valueOf base head ⌝ }
 {
+    let kind = head % 8;
     let value = (head / 8 % 65536) as usize;
-    if head % 8 == 2 {
+    if kind == 2 {
         return value + base;
     }
     value

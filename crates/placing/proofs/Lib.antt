@@ -1,2 +1,5 @@
 pub mod WordLaws
 pub mod EntryLaws
+pub mod MentionLaws
+pub mod LinkLaws
+pub mod PlaceLaws

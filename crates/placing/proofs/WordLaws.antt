@@ -44,7 +44,7 @@ clash-same base (c ∷ cs) ws vs e =
     ap₂ _||_ (same-place ws vs i e)
     (clash-same base cs (set ws i (plain 0)) (set vs i (plain 0)) (same-places ws vs i (plain 0) (plain 0) e refl))
 
-clash-cons : (base : ℕ) (c : Code) (cs : List Code) (ws : List Word) (w : Word) → isPlaced w ≡ true →
+pub clash-cons : (base : ℕ) (c : Code) (cs : List Code) (ws : List Word) (w : Word) → isPlaced w ≡ true →
     clash base (c ∷ cs) ws
     ≡ (isPlaced (getD ws (base + c .address) unplaced) || clash base cs (set ws (base + c .address) w))
 unfolding clash

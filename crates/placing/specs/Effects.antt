@@ -1,13 +1,14 @@
 -- What each pass that changes the state does to it, and what it says of that.
 use Prim.Native.Nat.{ℕ, _+_, _-_, _≤_, _<_}
 use mathlib.Core.Bool.{Bool, true, false, cond}
-use mathlib.Core.List.{List, [], _∷_, map}
+use mathlib.Core.List.{List, [], _∷_, _++_, map}
 use mathlib.Core.Path.{_≡_}
-use lib.ListN.{length, getD, set}
-use lib.Dec.{ltb}
+use lib.ListN.{length, getD, set, take}
+use lib.Dec.{leb, ltb}
 use Rattle.rules.specs.Text.{any}
+use Rattle.rules.specs.Reading.{Module}
 use Rattle.rules.specs.State.{Symbol, placeOf, Word, plain, refers, State}
-use Rattle.rules.specs.Placing.{Code, entryName, clash, defineAll, mention, mentionAll}
+use Rattle.rules.specs.Placing.{Code, entryName, clash, defineAll, mention, mentionAll, placingFault, placed}
 use Rattle.rules.specs.Calls.{withSymbols}
 use Rattle.rules.specs.declared.line.Entry.{Entry}
 use Rattle.rules.specs.declared.line.Relocation.{Relocation}
@@ -15,6 +16,7 @@ use Rattle.rules.specs.declared.line.Relocation.the-variants.{Plain, External, 
 use Rattle.state.specs.Layout.{decode}
 use Rattle.state.specs.Good.{Good, withWords}
 use Rattle.parts.specs.Passes.{badCode, repeated}
+use Rattle.placing.specs.declared.symbols.Places.{Places}
 
 -- ---- words: first all of them without their references, then the references
 
@@ -86,3 +88,35 @@ pub record EnteredPart (base : ℕ) (whole : List Entry) (s : State) (rest : Lis
   pub good : Good after
   pub stopped : (r ≡ 0 → ⊥) → r ≡ enteringFault base whole s
   pub on : r ≡ 0 → Entering base whole s rest (decode after)
+
+-- ---- externals
+
+abbrev pub mentioned : List ℕ → State → State
+mentioned xs s = withSymbols (mentionAll xs (s .symbols)) s
+
+-- the place of each external as it joins
+unfoldable pub placesOf : List ℕ → List Symbol → List ℕ
+placesOf [] t = []
+placesOf (x ∷ xs) t = placeOf x t ∷ placesOf xs (mention x t)
+
+pub record Mentioned (xs : List ℕ) (s : State) (r : Places) (after : List ℕ) : Type 0 where
+  pub room-is : r .room ≡ leb (length (mentionAll xs (s .symbols))) 256
+  pub good : Good after
+  pub done : r .room ≡ true → decode after ≡ mentioned xs s
+  pub places : r .room ≡ true → take (length xs) (r .at) ≡ placesOf xs (s .symbols)
+
+-- on the way, with the places of the first n externals
+pub record Mentioning (whole : List ℕ) (s₀ : State) (n : ℕ) (at : List ℕ) (rest : List ℕ) (s : State) : Type 0 where
+  pub long : length at ≡ 64
+  pub count : n + length rest ≡ length whole
+  pub places : take n at ++ placesOf rest (s .symbols) ≡ placesOf whole (s₀ .symbols)
+  pub mentioned-is : mentioned rest s ≡ mentioned whole s₀
+
+-- ---- a module
+
+-- a module was tried: its fault, and its effect where there is none
+pub record Tried (s : State) (m : Module) (r : ℕ) (after : List ℕ) : Type 0 where
+  pub number : r ≡ placingFault s m
+  pub most : r ≤ 14
+  pub good : Good after
+  pub done : r ≡ 0 → decode after ≡ placed s m

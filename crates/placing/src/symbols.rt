@@ -4,18 +4,19 @@ use parts::heads::is_entry;
 use parts::names::duplicates;
 use state::table::define;
 use state::table::is_defined;
+use state::table::mention_at;
 ghost use Prim.Native.Nat.{_-_, _+_, _<_, _≤_};
 ghost use mathlib.Core.Bool.{false, cond};
 ghost use mathlib.Core.Path.{_≡_};
 ghost use lib.ListN.{length};
 ghost use Rattle.rules.specs.Text.{any};
-ghost use Rattle.rules.specs.Placing.{entriesIn};
+ghost use Rattle.rules.specs.Placing.{entriesIn, externalsIn};
 ghost use Rattle.tables.specs.Tables.{partsOf};
 ghost use Rattle.state.specs.Layout.{decode};
 ghost use Rattle.state.specs.Good.{Good};
 ghost use Rattle.parts.specs.Cells.{partsFrom};
 ghost use Rattle.parts.specs.Passes.{overRange, namesIn, repeated};
-ghost use Rattle.placing.specs.Effects.{EnteredPart, Entered};
+ghost use Rattle.placing.specs.Effects.{EnteredPart, Entered, Mentioned};
 
 // The fault where the table is full at cell `at`: a second entry of one name from there on goes first.
 fn full_fault(parts: &[u64], at: usize, state: &[u64]) -> u64
@@ -23,10 +24,7 @@ fn full_fault(parts: &[u64], at: usize, state: &[u64]) -> u64
     requires { ⌜ Good (now state) ⌝ }
     ensures { λ r. ⌜ r ≡ cond (repeated (decode (now (state .entry)) .symbols) (namesIn (partsFrom (now (parts .entry)) at))) 13 14 ⌝ }
 {
-    if duplicates(parts, at, state) {
-        return 13;
-    }
-    14
+    if duplicates(parts, at, state) { 13 } else { 14 }
 }
 
 // Enters the part at cell `at`, if it is an entry.
@@ -68,4 +66,35 @@ pub fn enter(parts: &[u64], base: usize, state: &mut [u64]) -> u64
         i += 2;
     }
     0
+}
+
+// Whether the table had room for the externals, and then the place of each.
+pub struct Places {
+    pub room: bool,
+    pub at: [u16; 64],
+}
+
+pub fn mention_all(parts: &[u64], state: &mut [u64]) -> Places
+    requires { ⌜ length (externalsIn (partsOf (now parts))) ≤ 64 ⌝ }
+    requires { ⌜ Good (now state) ⌝ }
+    ensures { λ r. ⌜ Mentioned (externalsIn (partsOf (now (parts .entry)))) (decode (now (state .entry))) r (now (state .exit)) ⌝ }
+{
+    let n = parts.len();
+    let mut at = [0u16; 64];
+    let mut count = 0;
+    let mut i = 0;
+    while 1 < n - i {
+        let head = parts[i];
+        let name = parts[i + 1];
+        i += 2;
+        if head % 8 == 3 {
+            let place = mention_at(state, name);
+            if place == 256 {
+                return Places { room: false, at };
+            }
+            at[count] = place as u16;
+            count += 1;
+        }
+    }
+    Places { room: true, at }
 }

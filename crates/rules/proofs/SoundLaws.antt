@@ -199,7 +199,7 @@ soundWord-more n k l (refers x i) h =
     and-intro (and-left (ltb x (2 ^ 64)) (ltb i n) h) (lt-ltb i k (omega arith))
 
 -- a symbol of the table stands below its length
-place-below : (x : ℕ) (t : List Symbol) → isSymbol x t ≡ true → placeOf x t < length t
+pub place-below : (x : ℕ) (t : List Symbol) → isSymbol x t ≡ true → placeOf x t < length t
 unfolding isSymbol any placeOf
 place-below x [] h = absurd (false≢true h)
 place-below x (s ∷ t) h = go (nameIs x s) h (place-below x t)

@@ -1,8 +1,8 @@
 use borrow.Author.Needs.{needs}
 use native.Mathlib.Omega.{arith}
 use mathlib.Core.Path.{_≡_, refl, sym, ap, _∙_}
-use lib.ListN.{length}
-use Prim.Native.Nat.{_-_, _≤_}
+use lib.ListN.{length, getD}
+use Prim.Native.Nat.{ℕ, _-_, _≤_, _<_}
 use Rattle.rules.specs.Placing.{externalsIn, codeIn}
 use Rattle.state.specs.Layout.{decode}
 use Rattle.state.specs.Good.{Good}
@@ -45,17 +45,30 @@ add-i c = omega arith
 argument-requires : tie.Need-argument-requires Inv-loop μ-loop
 argument-requires c κs = search needs
 
+-- the external's number is one of the module's
+number : (c : tie.After-argument Inv-loop μ-loop) →
+    let k : ℕ = c .argument .result in
+    (1 ≤ k) × (k ≤ length (externalsIn (partsFrom (c .before .before .before .before .before .before .before .before .args .parts .now) 0)))
+number c =
+    let l = c .before .before .before .before .before .loop in let a = c .before .before .before .before .before .before .before .before .args in
+    link-number (a .base) (a .t3) (length (externalsIn (partsFrom (a .parts .now) 0))) (codeIn (partsFrom (a .parts .now) 0)) (decode (a .state .now)) (a .parts .now) (l .i) (omega arith) (decode (l .state)) (l .inv .4) (c .before .if1 .taken) (c .argument .result) (c .argument .ensures)
+
+-- and its place is in the table
+there : (c : tie.After-argument Inv-loop μ-loop) →
+    getD (c .before .before .before .before .before .before .before .before .args .t3) (c .argument .result - 1) 0 < length (decode (c .before .before .before .before .before .before .before .before .args .state .now) .symbols)
+there c = c .before .before .before .before .before .before .before .before .pre .1 .1 .there (c .argument .result - 1) (omega (arith, number c))
+
 sub-symbol : tie.Need-sub-symbol Inv-loop μ-loop
-sub-symbol c = let l = c .before .before .before .before .before .loop in let a = c .before .before .before .before .before .before .before .before .args in link-number (a .base) (a .t3) (length (externalsIn (partsFrom (a .parts .now) 0))) (codeIn (partsFrom (a .parts .now) 0)) (decode (a .state .now)) (a .parts .now) (l .i) (omega arith) (decode (l .state)) (l .inv .4) (c .before .if1 .taken) (c .argument .result) (c .argument .ensures) .0
+sub-symbol c = omega (arith, number c)
 
 mul-symbol : tie.Need-mul-symbol Inv-loop μ-loop
-mul-symbol c = let l = c .before .before .before .before .before .loop in let a = c .before .before .before .before .before .before .before .before .args in omega (arith, link-number (a .base) (a .t3) (length (externalsIn (partsFrom (a .parts .now) 0))) (codeIn (partsFrom (a .parts .now) 0)) (decode (a .state .now)) (a .parts .now) (l .i) (omega arith) (decode (l .state)) (l .inv .4) (c .before .if1 .taken) (c .argument .result) (c .argument .ensures), c .before .before .before .before .before .before .before .before .pre .1 .1 .few)
+mul-symbol c = omega (arith, number c, c .before .before .before .before .before .before .before .before .pre .1 .1 .few)
 
 array-read-symbol : tie.Need-array-read-symbol Inv-loop μ-loop
-array-read-symbol c = let l = c .before .before .before .before .before .loop in let a = c .before .before .before .before .before .before .before .before .args in omega (arith, link-number (a .base) (a .t3) (length (externalsIn (partsFrom (a .parts .now) 0))) (codeIn (partsFrom (a .parts .now) 0)) (decode (a .state .now)) (a .parts .now) (l .i) (omega arith) (decode (l .state)) (l .inv .4) (c .before .if1 .taken) (c .argument .result) (c .argument .ensures), c .before .before .before .before .before .before .before .before .pre .1 .1 .few)
+array-read-symbol c = omega (arith, number c, c .before .before .before .before .before .before .before .before .pre .1 .1 .few)
 
 cast-symbol : tie.Need-cast-symbol Inv-loop μ-loop
-cast-symbol c = let l = c .before .before .before .before .before .loop in let a = c .before .before .before .before .before .before .before .before .args in omega (arith, c .before .before .before .before .before .before .before .before .pre .1 .1 .there (c .argument .result - 1) (omega (arith, link-number (a .base) (a .t3) (length (externalsIn (partsFrom (a .parts .now) 0))) (codeIn (partsFrom (a .parts .now) 0)) (decode (a .state .now)) (a .parts .now) (l .i) (omega arith) (decode (l .state)) (l .inv .4) (c .before .if1 .taken) (c .argument .result) (c .argument .ensures))), c .before .before .before .before .before .before .before .before .pre .1 .0 .tidy .few)
+cast-symbol c = omega (arith, there c, c .before .before .before .before .before .before .before .before .pre .1 .0 .tidy .few)
 
 address-requires : tie.Need-address-requires Inv-loop μ-loop
 address-requires c κs = search needs
@@ -64,7 +77,7 @@ add-put-reference : tie.Need-add-put-reference Inv-loop μ-loop
 add-put-reference c = omega (arith, c .address .ensures)
 
 put-reference-requires : tie.Need-put-reference-requires Inv-loop μ-loop
-put-reference-requires c κs = let l = c .before .before .before .before .before .before .before .loop in let a = c .before .before .before .before .before .before .before .before .before .before .args in (l .inv .2, omega (arith, c .before .before .before .before .before .before .before .before .before .before .pre .1 .1 .there (c .before .before .argument .result - 1) (omega (arith, link-number (a .base) (a .t3) (length (externalsIn (partsFrom (a .parts .now) 0))) (codeIn (partsFrom (a .parts .now) 0)) (decode (a .state .now)) (a .parts .now) (l .i) (omega arith) (decode (l .state)) (l .inv .4) (c .before .before .before .if1 .taken) (c .before .before .argument .result) (c .before .before .argument .ensures))), ap length (l .inv .4 .table-is)))
+put-reference-requires c κs = let l = c .before .before .before .before .before .before .before .loop in (l .inv .2, omega (arith, there (c .before .before), ap length (l .inv .4 .table-is)))
 
 loop-less : tie.Need-loop-less Inv-loop μ-loop
 loop-less c = omega arith
