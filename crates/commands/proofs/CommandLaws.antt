@@ -35,7 +35,7 @@ pub called-done : (o : CallOutcome) (s : State) (cells after : List ℕ) (a : Ca
 called-done o s cells after a e h p =
     record {
       answer = p ∙ ap (λ (x : CallOutcome). x .answer) (sym e);
-      cells = left-cells cells after s h ∙ ap (λ (x : CallOutcome). cellsAfter cells (x .left)) (sym e);
+      cells = left-cells cells h ∙ ap (λ (x : CallOutcome). cellsAfter cells (x .left)) (sym e);
     }
 
 -- ---- RESET
@@ -164,7 +164,7 @@ module _ (cells : List ℕ) (s : State) (t : List Symbol) (o : CallOutcome) (aft
   called-kept a good e no-room f p =
       let full = sym (j .room) ∙ no-room in
       let kept : Holds after s = rw full at (j .holds) in
-      let same : after ≡ cells = held-cells after s kept ∙ ap encode e ∙ sym (good .encoded) in
+      let same : after ≡ cells = held-cells kept ∙ ap encode e ∙ sym (good .encoded) in
       subst (Called o cells a) (sym same) (called-stopped o 14 cells a (f full) p)
 
 -- ---- END
@@ -185,7 +185,7 @@ unfolding overlay
 ended-done o s cells after out out′ r n a e h w q p =
     record {
       answer = p ∙ ap (endAnswer 0) q ∙ ap (λ (x : EndOutcome). x .answer) (sym e);
-      cells = left-cells cells after (marked frozen s) h ∙ ap (λ (x : EndOutcome). cellsAfter cells (x .left)) (sym e);
+      cells = left-cells cells h ∙ ap (λ (x : EndOutcome). cellsAfter cells (x .left)) (sym e);
       output =
           w .out
           ∙ ap (λ k. imageOf s ++ drop k out) (zero-add (length (imageOf s)))

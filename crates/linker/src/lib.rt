@@ -1,0 +1,59 @@
+// The public calls, exported for C and Rust: include/lnk100.h declares them.
+use rules::answer::CallAnswer;
+use rules::answer::EndAnswer;
+use rules::answer::MemoryAnswer;
+use rules::answer::SymbolAnswer;
+use rules::answer::UndefinedAnswer;
+ghost use mathlib.Core.Path.{_≡_};
+ghost use Rattle.rules.specs.Calls.{reset, base, force, end, memory, symbols, undefined};
+ghost use Rattle.state.specs.Layout.{lent};
+ghost use Rattle.commands.specs.Promise.{Called, Ended};
+
+#[no_mangle]
+pub extern "C" fn lnk100_reset(state: &mut [u64]) -> CallAnswer
+    ensures { λ r. ⌜ Called (reset (lent (now (state .entry)))) (now (state .entry)) r (now (state .exit)) ⌝ }
+{
+    commands::reset(state)
+}
+
+#[no_mangle]
+pub extern "C" fn lnk100_base(state: &mut [u64], address: u64) -> CallAnswer
+    ensures { λ r. ⌜ Called (base (lent (now (state .entry))) address) (now (state .entry)) r (now (state .exit)) ⌝ }
+{
+    commands::base(state, address)
+}
+
+#[no_mangle]
+pub extern "C" fn lnk100_force(state: &mut [u64], name: &[u8]) -> CallAnswer
+    ensures { λ r. ⌜ Called (force (lent (now (state .entry))) (now (name .entry))) (now (state .entry)) r (now (state .exit)) ⌝ }
+{
+    commands::force(state, name)
+}
+
+#[no_mangle]
+pub extern "C" fn lnk100_end(state: &mut [u64], out: &mut [u8]) -> EndAnswer
+    ensures { λ r. ⌜ Ended (end (lent (now (state .entry))) (now (out .entry))) (now (state .entry)) r (now (state .exit)) (now (out .exit)) ⌝ }
+{
+    commands::end(state, out)
+}
+
+#[no_mangle]
+pub extern "C" fn lnk100_memory(state: &[u64]) -> MemoryAnswer
+    ensures { λ r. ⌜ r ≡ memory (lent (now (state .entry))) ⌝ }
+{
+    listings::memory(state)
+}
+
+#[no_mangle]
+pub extern "C" fn lnk100_symbols(state: &[u64], index: u64) -> SymbolAnswer
+    ensures { λ r. ⌜ r ≡ symbols (lent (now (state .entry))) index ⌝ }
+{
+    listings::symbols(state, index)
+}
+
+#[no_mangle]
+pub extern "C" fn lnk100_undefined(state: &[u64], index: u64) -> UndefinedAnswer
+    ensures { λ r. ⌜ r ≡ undefined (lent (now (state .entry))) index ⌝ }
+{
+    listings::undefined(state, index)
+}
