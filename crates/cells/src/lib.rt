@@ -1,0 +1,28 @@
+// Lent cells as a whole: copied, and cleared.
+ghost use mathlib.Core.Path.{_≡_};
+ghost use lib.ListN.{length, replicate};
+
+// All cells of one slice into another of the same length.
+pub fn copy(source: &[u64], target: &mut [u64])
+    requires { ⌜ length (now source) ≡ length (now target) ⌝ }
+    ensures { λ r. ⌜ now (target .exit) ≡ now (source .entry) ⌝ }
+{
+    let n = source.len();
+    let mut i = 0;
+    while i < n {
+        target[i] = source[i];
+        i += 1;
+    }
+}
+
+// Zero in every cell.
+pub fn clear(target: &mut [u64])
+    ensures { λ r. ⌜ now (target .exit) ≡ replicate (length (now (target .entry))) 0 ⌝ }
+{
+    let n = target.len();
+    let mut i = 0;
+    while i < n {
+        target[i] = 0;
+        i += 1;
+    }
+}
