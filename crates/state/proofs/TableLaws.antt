@@ -70,13 +70,13 @@ joined-no t s cells h k =
     record { room = sym e; holds = rw e k }
 
 -- for callers: the two answers
-pub joined-holds : {t : List Symbol} {s : State} {cells : List ℕ} → Joined t s true cells → Holds cells (withSymbols t s)
-joined-holds {t} {s} {cells} j =
-    subst (λ (b : Bool). Holds cells (cond b (withSymbols t s) s)) (sym (j .room)) (j .holds)
+pub joined-holds : {t : List Symbol} {s : State} {r : Bool} {cells : List ℕ} → Joined t s r cells → r ≡ true → Holds cells (withSymbols t s)
+joined-holds {t} {s} {cells = cells} j e =
+    subst (λ (b : Bool). Holds cells (cond b (withSymbols t s) s)) (sym (j .room) ∙ e) (j .holds)
 
-pub joined-kept : {t : List Symbol} {s : State} {cells : List ℕ} → Joined t s false cells → Holds cells s
-joined-kept {t} {s} {cells} j =
-    subst (λ (b : Bool). Holds cells (cond b (withSymbols t s) s)) (sym (j .room)) (j .holds)
+pub joined-kept : {t : List Symbol} {s : State} {r : Bool} {cells : List ℕ} → Joined t s r cells → r ≡ false → Holds cells s
+joined-kept {t} {s} {cells = cells} j e =
+    subst (λ (b : Bool). Holds cells (cond b (withSymbols t s) s)) (sym (j .room) ∙ e) (j .holds)
 
 module _ {cells : List ℕ} (g : Good cells) {x i : ℕ} (p : Place x (decode cells .symbols) i) where
   abbrev t : List Symbol
