@@ -1,5 +1,5 @@
 -- Cells and the elements that stand in them: at a place, in a range, and a row's four numbers.
-use Prim.Native.Nat.{ℕ, suc, _+_, _-_, _*_, _/_, _%_, _<_, _≤_}
+use Prim.Native.Nat.{ℕ, _+_, _-_, _*_, _<_}
 use native.Mathlib.Omega.{arith}
 use mathlib.Core.List.{List, [], _∷_, _++_, append-assoc}
 use mathlib.Core.Path.{_≡_, refl, sym, ap, ap₂, _∙_}
@@ -7,8 +7,8 @@ use lib.ListN.{length, take, drop, getD, length-append}
 use lib.Seq.{getD-at, take-at, drop-at}
 use Rattle.rules.proofs.TestLaws.{Every}
 use Rattle.rules.specs.declared.reading.Part.{Part}
-use Rattle.tables.specs.Tables.{headIn, bodyIn, kindIn, lineIn, startIn, endIn, cellsIn, rowHead, rowBody, partOf, partHead, partBody, partsOf}
-use Rattle.tables.specs.Cells.{Row, row, cellsOf, headOfRow, bodyOfRow, partCells, rowCells}
+use Rattle.tables.specs.Tables.{headIn, bodyIn, kindIn, lineIn, startIn, endIn, cellsIn, partsOf}
+use Rattle.tables.specs.Cells.{Row, cellsOf, headOfRow, bodyOfRow, partCells, rowCells}
 use Rattle.tables.proofs.TablesLaws.{Fits, part-back}
 
 module _ {A : Type 0} (head body : A → ℕ) where

@@ -1,0 +1,5 @@
+pub mod FillLaws
+pub mod LimitLaws
+pub mod LoopLaws
+pub mod ItemLaws
+pub mod SoundTables
