@@ -28,6 +28,7 @@ use Rattle.tables.proofs.RowLaws.{row-free, row-member, row-section, modules-ad
 use Rattle.reading.specs.TwoTables.{Tables, empty, addPart, addModule, addSection, moduleRow, sectionRowOf, emit, tablesFrom, tablesOf}
 use Rattle.reading.specs.Filling.{ReadInto}
 use Rattle.reading.specs.declared.FileRead.{FileRead}
+use Rattle.reading.proofs.GrowLaws.{Extends, rows-grow, one-row, tables-grow}
 
 -- ---- sound parts fit their cells
 
@@ -59,44 +60,6 @@ stands-outside (atRest i) e = section-outside i e
 stands-outside (beforeTitle i) e = section-outside i e
 stands-outside (beforeCode i h g) e = section-outside i e
 stands-outside (beforeOther i h known l) e = section-outside i e
-
--- ---- tables only grow
-
-pub record Extends (t all : Tables) : Type 0 where
-  pub later-parts : List Part
-  pub later-rows : List Row
-  pub parts : all .parts ≡ t .parts ++ later-parts
-  pub rows : all .rows ≡ t .rows ++ later-rows
-
-grown : (t u all : Tables) (ps : List Part) (rs : List Row) → u .parts ≡ t .parts ++ ps → u .rows ≡ t .rows ++ rs → Extends u all → Extends t all
-grown t u all ps rs p q e =
-    record {
-      later-parts = ps ++ e .later-parts;
-      later-rows = rs ++ e .later-rows;
-      parts = e .parts ∙ ap (λ (l : List Part). l ++ e .later-parts) p ∙ append-assoc (t .parts) ps (e .later-parts);
-      rows = e .rows ∙ ap (λ (l : List Row). l ++ e .later-rows) q ∙ append-assoc (t .rows) rs (e .later-rows);
-    }
-
--- as many rows as there were, or more
-rows-grow : {t all : Tables} → Extends t all → length (t .rows) ≤ length (all .rows)
-rows-grow {t} e = omega (arith, ap length (e .rows), length-append (t .rows) (e .later-rows))
-
-one-row : (t : Tables) (r : Row) → length (t .rows ++ (r ∷ [])) ≡ length (t .rows) + 1
-one-row t r = length-append (t .rows) (r ∷ [])
-
-module _ (go : Mode → Tables → Tables) (grows : (m : Mode) (t : Tables) → Extends t (go m t)) where
-  emit-grows : (s : Step) (t : Tables) → Extends t (emit s t go)
-  unfolding emit addPart addModule addSection
-  emit-grows (Stop k c) t = record { later-parts = []; later-rows = []; parts = sym (append-nil (t .parts)); rows = sym (append-nil (t .rows)) }
-  emit-grows (Next m) t = grows m t
-  emit-grows (Add m p) t = grown t _ _ (p ∷ []) [] refl (sym (append-nil (t .rows))) (grows m (addPart p t))
-  emit-grows (CloseModule m line) t = grown t _ _ [] _ (sym (append-nil (t .parts))) refl (grows m (addModule (m .section .inside) line t))
-  emit-grows (CloseSection m line) t = grown t _ _ [] _ (sym (append-nil (t .parts))) refl (grows m (addSection line t))
-
-pub tables-grow : (ls : List (List ℕ)) (n : ℕ) (m : Mode) (t : Tables) → Extends t (tablesFrom n m t ls)
-unfolding tablesFrom
-tables-grow [] n m t = record { later-parts = []; later-rows = []; parts = sym (append-nil (t .parts)); rows = sym (append-nil (t .rows)) }
-tables-grow (l ∷ ls) n m t = emit-grows (λ m′ t′. tablesFrom (n + 1) m′ t′ ls) (tables-grow ls (n + 1)) (stepAt n m l) t
 
 -- ---- rows and items, one after the other
 
@@ -180,7 +143,30 @@ module _ (parts rows : List ℕ) where
     module _ (t : Tables) (ps : List Part) (ms : List Module) (o : Open t ps ms) where
       closed-few : {all : Tables} → Final all → {u : Tables} → Extends u all → u .parts ≡ t .parts → t .object < 65536
       closed-few f e same =
-          omega (arith, f .few-parts, ap length (e .parts ∙ ap (λ (l : List Part). l ++ e .later-parts) same), length-append (t .parts) (e .later-parts), ap length (o .last-parts), length-append (o .closed) ps, o .first-part)
+          let all-parts = ap length (e .parts ∙ ap (λ (l : List Part). l ++ e .later-parts) same) in
+          let open-parts = ap length (o .last-parts) in
+          omega (
+            arith,
+            f .few-parts,
+            all-parts,
+            length-append (t .parts) (e .later-parts),
+            open-parts,
+            length-append (o .closed) ps,
+            o .first-part,
+          )
+
+      -- nothing of the next module is there yet
+      reopened :
+          (u : Tables) (ns : List Module) → u .parts ≡ t .parts → u .object ≡ length (t .parts) → u .section + length ns ≡ length (u .rows)
+          → modulesIn parts rows (u .section) (length ns) ≡ ns → Open u [] ns
+      reopened u ns p q e s =
+          record {
+            closed = t .parts;
+            last-parts = p ∙ sym (append-nil (t .parts));
+            first-part = sym q;
+            last-rows = e;
+            members = s;
+          }
 
       -- a closed module's row, as it stands in the cells, and the module that is read back
       module-row :
@@ -203,14 +189,10 @@ module _ (parts rows : List ℕ) where
           let r = module-row m true f (a .0) (omega arith) in
           let i = length (t .rows) in
           let md = moduleAt line ps in
-          let opened : Open (addModule true line t) [] (ms ++ (md ∷ [])) =
-          record {
-            closed = t .parts;
-            last-parts = sym (append-nil (t .parts));
-            first-part = refl;
-            last-rows = omega (arith, o .last-rows, one-row t (moduleRow true line t), length-append ms (md ∷ []));
-            members = members-add ms md (t .section) i (o .members) (r .1) (o .last-rows);
-          } in
+          let opened =
+          reopened (addModule true line t) (ms ++ (md ∷ [])) refl refl
+          (omega (arith, o .last-rows, one-row t (moduleRow true line t), length-append ms (md ∷ [])))
+          (members-add ms md (t .section) i (o .members) (r .1) (o .last-rows)) in
           row-member parts rows i d (r .0 .kind)
           ∙ next-row t (addModule true line t) (subst (λ (c : Bool). Stands m [] (cond c (ms ++ (md ∷ [])) ms)) w (a .1)) opened f (one-row t _) d e
       module-items false m line w a f (suc d) e =
@@ -219,14 +201,9 @@ module _ (parts rows : List ℕ) where
           let md = moduleAt line ps in
           let stands : Stands m [] ms = subst (λ (c : Bool). Stands m [] (cond c (ms ++ (md ∷ [])) ms)) w (a .1) in
           let none : ms ≡ [] = stands-outside stands w in
-          let opened : Open (addModule false line t) [] ms =
-          record {
-            closed = t .parts;
-            last-parts = sym (append-nil (t .parts));
-            first-part = refl;
-            last-rows = omega (arith, ap length none, one-row t (moduleRow false line t));
-            members = no-members ms none (i + 1);
-          } in
+          let opened =
+          reopened (addModule false line t) ms refl refl (omega (arith, ap length none, one-row t (moduleRow false line t)))
+          (no-members ms none (i + 1)) in
           row-free parts rows i d (r .0 .kind)
           ∙ ap₂ (λ (x : Module) (l : List Item). free x ∷ l) (r .1) (next-row t (addModule false line t) stands opened f (one-row t _) d e)
 
@@ -241,14 +218,8 @@ module _ (parts rows : List ℕ) where
           let i = length (t .rows) in
           let r = row-there t f (grows m (addSection line t)) (sectionRowOf line t) refl (omega arith) (omega (arith, o .last-rows, f .few-rows, e)) in
           let count : endIn rows i - startIn rows i ≡ length ms = omega (arith, r .start, r .end, o .last-rows) in
-          let opened : Open (addSection line t) [] [] =
-          record {
-            closed = t .parts;
-            last-parts = sym (append-nil (t .parts));
-            first-part = refl;
-            last-rows = omega (arith, one-row t (sectionRowOf line t));
-            members = no-members [] refl (i + 1);
-          } in
+          let opened =
+          reopened (addSection line t) [] refl refl (omega (arith, one-row t (sectionRowOf line t))) (no-members [] refl (i + 1)) in
           row-section parts rows i d (r .kind)
           ∙ ap₂ (_∷_)
           (ap₂ section (r .line) (ap₂ (modulesIn parts rows) (r .start) count ∙ o .members))

@@ -51,6 +51,14 @@ unfolding linesOf weight
 lines-weight [] = omega arith
 lines-weight (b ∷ rest) = omega (arith, add-weight b (startsLF rest) (linesOf rest) (length rest) (lines-weight rest))
 
+length-weight : (ls : List (List ℕ)) → length ls ≤ weight ls
+unfolding weight
+length-weight [] = omega arith
+length-weight (l ∷ ls) = omega (arith, length-weight ls)
+
+pub lines-count : (text : List ℕ) → length (linesOf text) ≤ length text + 1
+lines-count text = omega (arith, lines-weight text, length-weight (linesOf text))
+
 -- ---- what the reading has paid for in advance
 
 -- an END header before its title, an LSB header before its LEB

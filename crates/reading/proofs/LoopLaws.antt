@@ -1,7 +1,6 @@
 -- The loop over the lines of a file: what holds before each line, and how it holds again.
 use Prim.Native.Nat.{ℕ, _+_, _≤_}
 use native.Mathlib.Omega.{arith}
-use mathlib.Core.Bool.{Bool, true, false, cond}
 use mathlib.Core.List.{List, [], _∷_}
 use mathlib.Core.Path.{_≡_, refl, sym, ap, subst, _∙_}
 use lib.ListN.{length, drop, length-append}
@@ -25,12 +24,8 @@ use Rattle.reading.specs.TwoTables.{Tables, empty, addPart, addModule, a
 use Rattle.reading.specs.Filling.{filledOf, partsIn, rowsIn, PartRoom, RowRoom, Fills, Lent, fileRead, ReadInto}
 use Rattle.reading.specs.declared.fill.Filled.{Filled}
 use Rattle.reading.specs.declared.FileRead.{FileRead}
+use Rattle.reading.proofs.GrowLaws.{Begun, empty-begun, part-begun, module-begun, section-begun}
 use Rattle.reading.proofs.LimitLaws.{weight, lines-weight, pending, spent, used, line-spends, start-pending}
-
--- the rows of the open section begin at or before the next row
-member-section : (member : Bool) (s n : ℕ) → s ≤ n → cond member s (n + 1) ≤ n + 1
-member-section true s n h = omega arith
-member-section false s n h = omega arith
 
 -- ---- what holds before each line
 
@@ -47,8 +42,7 @@ module _ (file lentParts lentRows : List ℕ) where
     pub row-cells : rows ≡ overwritten (rowsIn here) lentRows
     pub part-size : length parts ≡ 65536
     pub row-size : length rows ≡ 32768
-    pub open-object : here .object ≤ length (here .parts)
-    pub open-section : here .section ≤ length (here .rows)
+    pub begun : Begun here
     pub reading : readFrom n m (rest at) ≡ readingOf file
     pub tables : tablesFrom n m here (rest at) ≡ tablesOf file
     pub room : used here + pending m + weight (rest at) ≤ length file + 1
@@ -66,8 +60,7 @@ module _ (file lentParts lentRows : List ℕ) where
         row-cells = refl;
         part-size = l .part-room;
         row-size = l .row-room;
-        open-object = omega arith;
-        open-section = omega arith;
+        begun = empty-begun;
         reading = ap (λ (k : Mode). readFrom 1 k (linesOf file)) d;
         tables = ap (λ (k : Mode). tablesFrom 1 k empty (linesOf file)) d;
         room = omega (arith, lines-weight file, ap pending d ∙ start-pending);
@@ -112,10 +105,10 @@ module _ (file lentParts lentRows : List ℕ) where
     proceed :
         {next : ℕ} {s : Step} → Turn (b .here) n next s → {ps rs : List ℕ} {k : Mode} {g : Filled} (t : Tables) → g ≡ filledOf t
         → ps ≡ overwritten (partsIn t) lentParts → rs ≡ overwritten (rowsIn t) lentRows → length ps ≡ 65536 → length rs ≡ 32768
-        → t .object ≤ length (t .parts) → t .section ≤ length (t .rows)
+        → Begun t
         → readFrom (n + 1) k (rest next) ≡ readingOf file → tablesFrom (n + 1) k t (rest next) ≡ tablesOf file
         → used t + pending k + weight (rest next) ≤ length file + 1 → Before ps rs k g (n + 1) next
-    proceed h t c p q x y o s d e u =
+    proceed h t c p q x y g d e u =
         record {
           here = t;
           counts = c;
@@ -123,8 +116,7 @@ module _ (file lentParts lentRows : List ℕ) where
           row-cells = q;
           part-size = x;
           row-size = y;
-          open-object = o;
-          open-section = s;
+          begun = g;
           reading = d;
           tables = e;
           room = u;
@@ -137,8 +129,8 @@ module _ (file lentParts lentRows : List ℕ) where
       pub skipped : Turn (b .here) n next (Next k) → Before parts rows k f (n + 1) next
       unfolding onward emit spent
       skipped t =
-          proceed t (b .here) (b .counts) (b .part-cells) (b .row-cells) (b .part-size) (b .row-size) (b .open-object)
-          (b .open-section) (t .reading) (t .tables) (t .room)
+          proceed t (b .here) (b .counts) (b .part-cells) (b .row-cells) (b .part-size) (b .row-size) (b .begun)
+          (t .reading) (t .tables) (t .room)
 
       pub added :
           {p : Part} → Turn (b .here) n next (Add k p) → {g : Filled} {new : List ℕ} → Fills partsIn (addPart p) f parts g new
@@ -147,24 +139,24 @@ module _ (file lentParts lentRows : List ℕ) where
       added {p} t h e =
           let more = length-append (b .here .parts) (p ∷ []) in
           proceed t (addPart p (b .here)) (h .counts (b .here) (b .counts)) (h .cells (b .here) lentParts (b .counts) (b .part-cells))
-          (b .row-cells) (e ∙ b .part-size) (b .row-size) (omega (arith, more, b .open-object)) (b .open-section) (t .reading)
-          (t .tables) (omega (arith, more, t .room))
+          (b .row-cells) (e ∙ b .part-size) (b .row-size) (part-begun (b .begun) p)
+          (t .reading) (t .tables) (omega (arith, more, t .room))
 
       -- one row more
       module _ {g : Filled} {new : List ℕ} (e : length new ≡ length rows) where
         filed :
             {s : Step} → Turn (b .here) n next s → (change : Tables → Tables) → Fills rowsIn change f rows g new
             → change (b .here) .parts ≡ b .here .parts → length (change (b .here) .rows) ≡ length (b .here .rows) + 1
-            → change (b .here) .object ≡ length (b .here .parts) → change (b .here) .section ≤ length (b .here .rows) + 1
+            → Begun (change (b .here))
             → readFrom (n + 1) k (rest next) ≡ readingOf file
             → tablesFrom (n + 1) k (change (b .here)) (rest next) ≡ tablesOf file
             → used (b .here) + (4 + pending k) + weight (rest next) ≤ length file + 1 → Before parts new k g (n + 1) next
         unfolding used
-        filed t change h same one o s d c u =
+        filed t change h same one g d c u =
             let count = ap length same in
             let cells = b .part-cells ∙ ap (λ (ps : List Part). overwritten (partCells ps) lentParts) (sym same) in
             proceed t (change (b .here)) (h .counts (b .here) (b .counts)) cells
-            (h .cells (b .here) lentRows (b .counts) (b .row-cells)) (b .part-size) (e ∙ b .row-size) (omega arith) (omega arith)
+            (h .cells (b .here) lentRows (b .counts) (b .row-cells)) (b .part-size) (e ∙ b .row-size) g
             d c (omega arith)
 
         pub module-closed :
@@ -172,16 +164,16 @@ module _ (file lentParts lentRows : List ℕ) where
             → Fills rowsIn (addModule (k .section .inside) line) f rows g new → Before parts new k g (n + 1) next
         unfolding onward emit spent addModule
         module-closed {line} t h =
-            filed t (addModule (k .section .inside) line) h refl (length-append (b .here .rows) _) refl
-            (member-section (k .section .inside) (b .here .section) (length (b .here .rows)) (b .open-section))
-            (t .reading) (t .tables) (t .room)
+            filed t (addModule (k .section .inside) line) h refl (length-append (b .here .rows) _)
+            (module-begun (b .begun) (k .section .inside) line) (t .reading) (t .tables) (t .room)
 
         pub section-closed :
             {line : ℕ} → Turn (b .here) n next (CloseSection k line) → Fills rowsIn (addSection line) f rows g new
             → Before parts new k g (n + 1) next
         unfolding onward emit spent addSection
         section-closed {line} t h =
-            filed t (addSection line) h refl (length-append (b .here .rows) _) refl (omega arith) (t .reading) (t .tables) (t .room)
+            filed t (addSection line) h refl (length-append (b .here .rows) _) (section-begun line (b .here))
+            (t .reading) (t .tables) (t .room)
 
     -- ---- room for what a step adds
 
@@ -202,8 +194,8 @@ module _ (file lentParts lentRows : List ℕ) where
           free = omega (arith, b .short, count-rows);
           whole = b .row-size;
           few = omega (arith, b .short, count-parts);
-          open-object = omega (arith, ap (λ (x : Filled). x .object) (b .counts), count-parts, b .open-object);
-          open-section = omega (arith, ap (λ (x : Filled). x .section) (b .counts), count-rows, b .open-section);
+          open-object = omega (arith, ap (λ (x : Filled). x .object) (b .counts), count-parts, b .begun .object);
+          open-section = omega (arith, ap (λ (x : Filled). x .section) (b .counts), count-rows, b .begun .section);
         }
 
     pub module-room : {next : ℕ} {k : Mode} {line : ℕ} → Turn (b .here) n next (CloseModule k line) → RowRoom f rows
