@@ -17,7 +17,9 @@ use Rattle.reading.specs.declared.fill.Filled.{Filled}
 
 -- ---- two cells
 
-two-more : (lent : List ℕ) (k : ℕ) → k + 1 < length lent → drop k lent ≡ getD lent k 0 ∷ getD lent (suc k) 0 ∷ drop (suc (suc k)) lent
+two-more :
+    (lent : List ℕ) (k : ℕ) → k + 1 < length lent
+    → drop k lent ≡ getD lent k 0 ∷ getD lent (suc k) 0 ∷ drop (suc (suc k)) lent
 two-more lent k h = drop-cons lent k 0 (omega arith) ∙ ap (_∷_ (getD lent k 0)) (drop-cons lent (suc k) 0 (omega arith))
 
 set-two :
@@ -80,7 +82,8 @@ module _ {f : Filled} {h b : ℕ} {old new : List ℕ} where
   module _ (put : Put (f .rows) h b old new) where
     -- the row r t stands behind those of t
     new-row :
-        (r : Tables → Row) → ((t : Tables) → f ≡ filledOf t → h ≡ headOfRow (r t)) → ((t : Tables) → f ≡ filledOf t → b ≡ bodyOfRow (r t))
+        (r : Tables → Row) → ((t : Tables) → f ≡ filledOf t → h ≡ headOfRow (r t))
+        → ((t : Tables) → f ≡ filledOf t → b ≡ bodyOfRow (r t))
         → (t : Tables) (lent : List ℕ) → f ≡ filledOf t → old ≡ overwritten (rowsIn t) lent
         → new ≡ overwritten (rowCells (t .rows ++ (r t ∷ []))) lent
     new-row r d e t lent g =

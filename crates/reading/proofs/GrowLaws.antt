@@ -53,7 +53,9 @@ pub record Extends (t all : Tables) : Type 0 where
 unchanged : (t : Tables) → Extends t t
 unchanged t = record { later-parts = []; later-rows = []; parts = sym (append-nil (t .parts)); rows = sym (append-nil (t .rows)) }
 
-grown : (t u all : Tables) (ps : List Part) (rs : List Row) → u .parts ≡ t .parts ++ ps → u .rows ≡ t .rows ++ rs → Extends u all → Extends t all
+grown :
+    (t u all : Tables) (ps : List Part) (rs : List Row) → u .parts ≡ t .parts ++ ps → u .rows ≡ t .rows ++ rs → Extends u all
+    → Extends t all
 grown t u all ps rs p q e =
     record {
       later-parts = ps ++ e .later-parts;

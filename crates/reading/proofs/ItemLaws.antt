@@ -32,7 +32,8 @@ use Rattle.reading.proofs.GrowLaws.{Extends, rows-grow, one-row, tables
 
 -- ---- sound parts fit their cells
 
-fit-below : (ps : List Part) (n : ℕ) → n ≤ 131072 → all legalPart ps ≡ true → all (codeBelow n) (codeIn ps) ≡ true → Every Fits ps
+fit-below :
+    (ps : List Part) (n : ℕ) → n ≤ 131072 → all legalPart ps ≡ true → all (codeBelow n) (codeIn ps) ≡ true → Every Fits ps
 unfolding codeIn
 fit-below [] n h l b = tt
 fit-below (EntryPart e ∷ ps) n h l b =
@@ -83,7 +84,8 @@ module _ (parts rows : List ℕ) where
 
   -- the row that was written behind those of t
   row-there :
-      (t : Tables) {u all : Tables} → Final all → Extends u all → (r : Row) → u .rows ≡ t .rows ++ (r ∷ []) → r .kind < 4 → r .start < 65536
+      (t : Tables) {u all : Tables} → Final all → Extends u all → (r : Row) → u .rows ≡ t .rows ++ (r ∷ []) → r .kind < 4
+      → r .start < 65536
       → RowIs rows (length (t .rows)) r
   row-there t f e r q k s =
       let cells : rows ≡ rowCells (t .rows ++ r ∷ e .later-rows) ++ f .behind-rows =
@@ -95,12 +97,14 @@ module _ (parts rows : List ℕ) where
   module _ {t all : Tables} {ps : List Part} {ms : List Module} (o : Open t ps ms) (f : Final all) where
     -- a module that was closed is read back
     module-there :
-        {u : Tables} → Extends u all → {k line : ℕ} → u .parts ≡ t .parts → RowIs rows (length (t .rows)) (row k line (t .object) (length (t .parts)))
+        {u :
+        Tables} → Extends u all → {k line : ℕ} → u .parts ≡ t .parts → RowIs rows (length (t .rows)) (row k line (t .object) (length (t .parts)))
         → Every Fits ps → moduleIn parts rows (length (t .rows)) ≡ moduleAt line ps
     unfolding moduleIn
     module-there e {k} {line} same r fits =
         let i = length (t .rows) in
-        let now : all .parts ≡ (o .closed ++ ps) ++ e .later-parts = e .parts ∙ ap (λ (l : List Part). l ++ e .later-parts) (same ∙ o .last-parts) in
+        let now : all .parts ≡ (o .closed ++ ps) ++ e .later-parts =
+        e .parts ∙ ap (λ (l : List Part). l ++ e .later-parts) (same ∙ o .last-parts) in
         let between : cellsIn parts (startIn rows i) (endIn rows i) ≡ partCells ps =
         ap (λ (c : List ℕ). cellsIn c (startIn rows i) (endIn rows i))
         (f .part-cells ∙ ap (λ (l : List Part). partCells l ++ f .behind-parts) now)
@@ -111,7 +115,8 @@ module _ (parts rows : List ℕ) where
 
   -- the modules of the open section, with one more and at first
   members-add :
-      (ms : List Module) (md : Module) (i j : ℕ) → modulesIn parts rows i (length ms) ≡ ms → moduleIn parts rows j ≡ md → i + length ms ≡ j
+      (ms : List Module) (md : Module) (i j : ℕ) → modulesIn parts rows i (length ms) ≡ ms → moduleIn parts rows j ≡ md
+      → i + length ms ≡ j
       → modulesIn parts rows i (length (ms ++ (md ∷ []))) ≡ ms ++ (md ∷ [])
   members-add ms md i j p q e =
       ap (modulesIn parts rows i) (length-append ms (md ∷ []) ∙ add-one (length ms))
@@ -131,7 +136,8 @@ module _ (parts rows : List ℕ) where
   module _ (go : Mode → Tables → Tables) (grows : (m : Mode) (t : Tables) → Extends t (go m t))
       (items : Mode → List Part → List Module → List Item)
       (onward : (m : Mode) (t : Tables) (ps : List Part) (ms : List Module) → Stands m ps ms → Open t ps ms → Final (go m t)
-      → (d : ℕ) → length (go m t .rows) ≡ length (t .rows) + d → itemsFromRow parts rows (length (t .rows)) d ≡ items m ps ms) where
+      → (d : ℕ) → length (go m t .rows) ≡ length (t .rows) + d
+      → itemsFromRow parts rows (length (t .rows)) d ≡ items m ps ms) where
     -- one row more, and d rows behind it
     next-row :
         {m : Mode} (t u : Tables) {ps : List Part} {ms : List Module} → Stands m ps ms → Open u ps ms → Final (go m u)
@@ -157,7 +163,8 @@ module _ (parts rows : List ℕ) where
 
       -- nothing of the next module is there yet
       reopened :
-          (u : Tables) (ns : List Module) → u .parts ≡ t .parts → u .object ≡ length (t .parts) → u .section + length ns ≡ length (u .rows)
+          (u : Tables) (ns : List Module) → u .parts ≡ t .parts → u .object ≡ length (t .parts)
+          → u .section + length ns ≡ length (u .rows)
           → modulesIn parts rows (u .section) (length ns) ≡ ns → Open u [] ns
       reopened u ns p q e s =
           record {
@@ -170,7 +177,8 @@ module _ (parts rows : List ℕ) where
 
       -- a closed module's row, as it stands in the cells, and the module that is read back
       module-row :
-          (m : Mode) (b : Bool) {line : ℕ} → Final (go m (addModule b line t)) → ModuleSound (moduleAt line ps) → cond b memberRow freeRow < 4
+          (m : Mode) (b : Bool) {line : ℕ} → Final (go m (addModule b line t)) → ModuleSound (moduleAt line ps)
+          → cond b memberRow freeRow < 4
           → RowIs rows (length (t .rows)) (moduleRow b line t) × (moduleIn parts rows (length (t .rows)) ≡ moduleAt line ps)
       unfolding addModule
       module-row m b {line} f s k =
@@ -179,7 +187,8 @@ module _ (parts rows : List ℕ) where
           (there, module-there o f later refl there (sound-fit s))
 
       module-items :
-          (b : Bool) (m : Mode) (line : ℕ) → m .section .inside ≡ b → After ps ms (CloseModule m line) → Final (go m (addModule b line t))
+          (b : Bool) (m : Mode) (line : ℕ) → m .section .inside ≡ b → After ps ms (CloseModule m line)
+          → Final (go m (addModule b line t))
           → (d : ℕ) → length (go m (addModule b line t) .rows) ≡ length (t .rows) + d
           → itemsFromRow parts rows (length (t .rows)) d ≡ moduleDone b (moduleAt line ps) m ms items
       unfolding addModule moduleDone
@@ -189,12 +198,13 @@ module _ (parts rows : List ℕ) where
           let r = module-row m true f (a .0) (omega arith) in
           let i = length (t .rows) in
           let md = moduleAt line ps in
+          let stands = subst (λ (c : Bool). Stands m [] (cond c (ms ++ (md ∷ [])) ms)) w (a .1) in
           let opened =
           reopened (addModule true line t) (ms ++ (md ∷ [])) refl refl
           (omega (arith, o .last-rows, one-row t (moduleRow true line t), length-append ms (md ∷ [])))
           (members-add ms md (t .section) i (o .members) (r .1) (o .last-rows)) in
           row-member parts rows i d (r .0 .kind)
-          ∙ next-row t (addModule true line t) (subst (λ (c : Bool). Stands m [] (cond c (ms ++ (md ∷ [])) ms)) w (a .1)) opened f (one-row t _) d e
+          ∙ next-row t (addModule true line t) stands opened f (one-row t _) d e
       module-items false m line w a f (suc d) e =
           let r = module-row m false f (a .0) (omega arith) in
           let i = length (t .rows) in
@@ -205,7 +215,8 @@ module _ (parts rows : List ℕ) where
           reopened (addModule false line t) ms refl refl (omega (arith, ap length none, one-row t (moduleRow false line t)))
           (no-members ms none (i + 1)) in
           row-free parts rows i d (r .0 .kind)
-          ∙ ap₂ (λ (x : Module) (l : List Item). free x ∷ l) (r .1) (next-row t (addModule false line t) stands opened f (one-row t _) d e)
+          ∙ ap₂ (λ (x : Module) (l : List Item). free x ∷ l) (r .1)
+          (next-row t (addModule false line t) stands opened f (one-row t _) d e)
 
       section-items :
           (m : Mode) (line : ℕ) → After ps ms (CloseSection m line) → Final (go m (addSection line t))
@@ -216,10 +227,12 @@ module _ (parts rows : List ℕ) where
           absurd (omega (arith, e, rows-grow (grows m (addSection line t)), one-row t (sectionRowOf line t)))
       section-items m line a f (suc d) e =
           let i = length (t .rows) in
-          let r = row-there t f (grows m (addSection line t)) (sectionRowOf line t) refl (omega arith) (omega (arith, o .last-rows, f .few-rows, e)) in
+          let few : t .section < 65536 = omega (arith, o .last-rows, f .few-rows, e) in
+          let r = row-there t f (grows m (addSection line t)) (sectionRowOf line t) refl (omega arith) few in
           let count : endIn rows i - startIn rows i ≡ length ms = omega (arith, r .start, r .end, o .last-rows) in
           let opened =
-          reopened (addSection line t) [] refl refl (omega (arith, one-row t (sectionRowOf line t))) (no-members [] refl (i + 1)) in
+          reopened (addSection line t) [] refl refl (omega (arith, one-row t (sectionRowOf line t)))
+          (no-members [] refl (i + 1)) in
           row-section parts rows i d (r .kind)
           ∙ ap₂ (_∷_)
           (ap₂ section (r .line) (ap₂ (modulesIn parts rows) (r .start) count ∙ o .members))
@@ -287,4 +300,5 @@ tables-hold {file} {lentParts} {lentRows} {r} {parts} {rows} h =
       few-parts = omega (arith, h .parts, h .few-parts);
       few-rows = omega (arith, h .rows, h .few-rows);
     } in
-    items-from parts rows (linesOf file) 1 atStart empty [] [] start-stands (empty-open parts rows) final (r .rows) (omega (arith, h .rows))
+    items-from parts rows (linesOf file) 1 atStart empty [] [] start-stands (empty-open parts rows) final (r .rows)
+    (omega (arith, h .rows))

@@ -112,14 +112,16 @@ module _ (n : ℕ) (b : OpenBlock) (o : OpenModule) (s : OpenSection) where
   -- a header
   records-spend :
       (w : Wanted) (count : ℕ) → awaited w ≡ 0
-      → spent (cond (o .inside) (Next (wantRecords w 0 count (mode AnyHeader b o s))) (Stop 7 0)) ≤ pending (mode AnyHeader b o s) + 2
+      → spent (cond (o .inside) (Next (wantRecords w 0 count (mode AnyHeader b o s))) (Stop 7 0))
+      ≤ pending (mode AnyHeader b o s) + 2
   unfolding spent pending wantRecords
   records-spend w count e = unless (o .inside) _ 7 0 _ (omega (arith, none-awaited (eqb count 0) w e))
 
   library-end-spends : spent (libraryEndStep (mode AnyHeader b o s)) ≤ pending (mode AnyHeader b o s) + 2
   unfolding spent pending awaited libraryEndStep leaveSection
   library-end-spends =
-      elim (s .inside) as (λ t. spent (cond (o .inside || not t) (Stop 7 0) (CloseSection (leaveSection (mode AnyHeader b o s)) (s .line))) ≤ 0 + cond t 2 0 + 2) [
+      let close = CloseSection (leaveSection (mode AnyHeader b o s)) (s .line) in
+      elim (s .inside) as (λ t. spent (cond (o .inside || not t) (Stop 7 0) close) ≤ 0 + cond t 2 0 + 2) [
         | true ↦ choose-step (o .inside || false) _ _ 4 (omega arith) (omega arith)
         | false ↦ rw (or-true (o .inside)) (omega arith)
       ]
@@ -128,7 +130,9 @@ module _ (n : ℕ) (b : OpenBlock) (o : OpenModule) (s : OpenSection) where
   unfolding spent pending awaited headerStep want wantRecords titleStep titleHeader libraryStep enterSection
   header-spends (CodeBlock count offset) = unless (o .inside) _ 7 0 _ (omega (arith, none-awaited (eqb count 0) CodeRecord refl))
   header-spends EndBlock = unless (o .inside) _ 7 0 _ (omega arith)
-  header-spends TitleBlock = choose-step (o .inside) _ _ _ (omega arith) (choose-step (s .inside && leb 256 (s .modules)) _ _ _ (omega arith) (omega arith))
+  header-spends TitleBlock =
+      choose-step (o .inside) _ _ _ (omega arith)
+      (choose-step (s .inside && leb 256 (s .modules)) _ _ _ (omega arith) (omega arith))
   header-spends (EntryBlock count) = records-spend EntryRecord count refl
   header-spends (ExternalBlock count) = records-spend ExternalRecord count refl
   header-spends LibraryStart = choose-step (o .inside || s .inside) _ _ _ (omega arith) (omega arith)
@@ -154,12 +158,14 @@ module _ (n : ℕ) (b : OpenBlock) (o : OpenModule) (s : OpenSection) where
   answer-spends w (closing {t} l) = unless (eqb t (o .title)) _ 7 0 _ (omega arith)
   answer-spends w (coded l) = omega (arith, done-spends CodeRecord CodeRecord refl)
   answer-spends w (entered l) = unless (ltb (o .entries) 64) _ 8 0 _ (omega (arith, done-spends EntryRecord EntryRecord refl))
-  answer-spends w (mentioned l) = unless (ltb (o .externals) 64) _ 8 0 _ (omega (arith, done-spends ExternalRecord ExternalRecord refl))
+  answer-spends w (mentioned l) =
+      unless (ltb (o .externals) 64) _ 8 0 _ (omega (arith, done-spends ExternalRecord ExternalRecord refl))
   answer-spends w dataRead = omega (arith, done-spends DataRecord DataRecord refl)
   answer-spends w initRead = omega (arith, done-spends InitRecord InitRecord refl)
   answer-spends w (parameter {size} l) =
       choose-mode (eqb size 0) _ _ _ (omega (arith, done-spends ParameterRecord ParameterRecord refl)) (omega arith)
-  answer-spends w sub = choose-mode (leb (b .subs) 1) _ _ _ (omega (arith, done-spends SubRecord ParameterRecord refl)) (omega arith)
+  answer-spends w sub =
+      choose-mode (leb (b .subs) 1) _ _ _ (omega (arith, done-spends SubRecord ParameterRecord refl)) (omega arith)
 
 -- an empty line is skipped
 empty-line : (n : ℕ) (m : Mode) → stepAt n m [] ≡ Next m

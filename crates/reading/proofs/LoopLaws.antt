@@ -50,7 +50,9 @@ module _ (file lentParts lentRows : List ℕ) where
     pub ends : at ≤ length file
     pub short : length file ≤ 65536
 
-  pub start : {m : Mode} {f : Filled} → Lent file lentParts lentRows → m ≡ atStart → f ≡ filledOf empty → Before lentParts lentRows m f 1 0
+  pub start :
+      {m : Mode} {f : Filled} → Lent file lentParts lentRows → m ≡ atStart → f ≡ filledOf empty
+      → Before lentParts lentRows m f 1 0
   unfolding readingOf tablesOf empty cellsOf used
   start {m} {f} l d e =
       record {
@@ -209,7 +211,9 @@ module _ (file lentParts lentRows : List ℕ) where
     -- ---- the end
 
     -- what stands in the tables is all, and this is the reading
-    finished : {x : Reading} → x ≡ readingOf file → b .here ≡ tablesOf file → ReadInto file lentParts lentRows (fileRead x f) parts rows
+    finished :
+        {x : Reading} → x ≡ readingOf file → b .here ≡ tablesOf file
+        → ReadInto file lentParts lentRows (fileRead x f) parts rows
     unfolding used
     finished d e =
         record {

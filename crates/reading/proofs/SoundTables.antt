@@ -54,11 +54,15 @@ few-before {t} e f =
 
 few-rows-before : (t u : Tables) (r : Row) → u .parts ≡ t .parts → u .rows ≡ t .rows ++ (r ∷ []) → Few u → Few t
 few-rows-before t u r p q f =
-    record { parts = omega (arith, f .parts, ap length p); rows = omega (arith, f .rows, ap length q, length-append (t .rows) (r ∷ [])) }
+    record {
+      parts = omega (arith, f .parts, ap length p);
+      rows = omega (arith, f .rows, ap length q, length-append (t .rows) (r ∷ []));
+    }
 
 module _ (last : ℕ) where
   ranged-add :
-      (rs : List Row) (r : Row) (i : ℕ) → RangedFrom last i rs → Ranged last (i + length rs) r → RangedFrom last i (rs ++ (r ∷ []))
+      (rs : List Row) (r : Row) (i : ℕ) → RangedFrom last i rs → Ranged last (i + length rs) r
+      → RangedFrom last i (rs ++ (r ∷ []))
   ranged-add [] r i h k = let z : i + 0 ≡ i = omega arith in (subst (λ (j : ℕ). Ranged last j r) z k, tt)
   ranged-add (x ∷ rs) r i h k =
       let z : i + suc (length rs) ≡ i + 1 + length rs = omega arith in
@@ -102,7 +106,8 @@ module _ (last : ℕ) where
 
   module _ (go : Mode → Tables → Tables) (grows : (m : Mode) (t : Tables) → Extends t (go m t))
       (onward : (m : Mode) (t : Tables) → Dated last m → Ranges t → Few (go m t) → RangedFrom last 0 (go m t .rows)) where
-    emit-ranged : (s : Step) (t : Tables) → DatedStep last s → Ranges t → Few (emit s t go) → RangedFrom last 0 (emit s t go .rows)
+    emit-ranged :
+        (s : Step) (t : Tables) → DatedStep last s → Ranges t → Few (emit s t go) → RangedFrom last 0 (emit s t go .rows)
     unfolding emit addModule addSection
     emit-ranged (Stop k c) t d h f = h .closed
     emit-ranged (Next m) t d h f = onward m t d h f
@@ -117,7 +122,8 @@ module _ (last : ℕ) where
         onward m u (d .1) (section-ranges line t (d .0) few h) f
 
   tables-ranged :
-      (ls : List (List ℕ)) (n : ℕ) (m : Mode) (t : Tables) → n + length ls ≤ last + 1 → Dated last m → Ranges t → Few (tablesFrom n m t ls)
+      (ls : List (List ℕ)) (n : ℕ) (m : Mode) (t : Tables) → n + length ls ≤ last + 1 → Dated last m → Ranges t
+      → Few (tablesFrom n m t ls)
       → RangedFrom last 0 (tablesFrom n m t ls .rows)
   unfolding tablesFrom
   tables-ranged [] n m t l d h f = h .closed
@@ -166,7 +172,8 @@ range-at last (r ∷ rs) front i more e h (suc k) l =
 
 -- ---- of a file that was read
 
-module _ {file lentParts lentRows : List ℕ} {r : FileRead} {parts rows : List ℕ} (h : ReadInto file lentParts lentRows r parts rows) where
+module _ {file lentParts lentRows : List ℕ} {r : FileRead} {parts rows : List ℕ}
+    (h : ReadInto file lentParts lentRows r parts rows) where
   pub row-ranged : (i : ℕ) → i < r .rows → InRange (length file + 1) rows i
   unfolding tablesOf
   row-ranged i l =
@@ -174,8 +181,11 @@ module _ {file lentParts lentRows : List ℕ} {r : FileRead} {parts rows : List 
       let last = length file + 1 in
       let few : Few t = record { parts = omega (arith, h .parts, h .few-parts); rows = omega (arith, h .rows, h .few-rows) } in
       let z : 0 + i ≡ i = omega arith in
-      let ranged = tables-ranged last (linesOf file) 1 atStart empty (omega (arith, lines-count file)) (start-dated last) (empty-ranges last) few in
-      let all = range-at last (t .rows) [] 0 (drop (length (rowCells (t .rows))) lentRows) refl ranged i (omega (arith, h .rows)) in
+      let ranged =
+      tables-ranged last (linesOf file) 1 atStart empty (omega (arith, lines-count file)) (start-dated last)
+      (empty-ranges last) few in
+      let more = drop (length (rowCells (t .rows))) lentRows in
+      let all = range-at last (t .rows) [] 0 more refl ranged i (omega (arith, h .rows)) in
       subst (λ (c : List ℕ). InRange last c i) (sym (h .row-cells)) (rw z at all)
 
   pub items-in-sound : Every ItemSound (itemsIn parts rows (r .rows))

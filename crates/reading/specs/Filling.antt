@@ -13,7 +13,8 @@ use Rattle.reading.specs.declared.FileRead.{FileRead}
 
 -- element i is written behind the cells xs, which stand in front of what was lent
 pub record Put (i head body : ℕ) (old new : List ℕ) : Type 0 where
-  pub adds : (xs lent : List ℕ) → length xs ≡ 2 * i → old ≡ overwritten xs lent → new ≡ overwritten (xs ++ (head ∷ body ∷ [])) lent
+  pub adds :
+      (xs lent : List ℕ) → length xs ≡ 2 * i → old ≡ overwritten xs lent → new ≡ overwritten (xs ++ (head ∷ body ∷ [])) lent
 
 -- how far the tables are filled
 abbrev pub filledOf : Tables → Filled
@@ -40,7 +41,9 @@ pub record RowRoom (f : Filled) (cells : List ℕ) : Type 0 where
 -- cells that held a table hold it after a change of the tables, and the counts follow
 pub record Fills (table : Tables → List ℕ) (change : Tables → Tables) (f : Filled) (old : List ℕ) (r : Filled) (new : List ℕ) : Type 0 where
   pub counts : (t : Tables) → f ≡ filledOf t → r ≡ filledOf (change t)
-  pub cells : (t : Tables) (lent : List ℕ) → f ≡ filledOf t → old ≡ overwritten (table t) lent → new ≡ overwritten (table (change t)) lent
+  pub cells :
+      (t : Tables) (lent : List ℕ) → f ≡ filledOf t → old ≡ overwritten (table t) lent
+      → new ≡ overwritten (table (change t)) lent
 
 -- ---- the whole file
 

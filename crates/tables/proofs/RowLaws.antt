@@ -13,7 +13,9 @@ use Rattle.tables.specs.Tables.{freeRow, memberRow, sectionRow, kindIn, 
 module _ (parts rows : List ℕ) where
   -- a row and the n rows behind it
   module _ (i n : ℕ) where
-    pub row-free : kindIn rows i ≡ freeRow → itemsFromRow parts rows i (suc n) ≡ free (moduleIn parts rows i) ∷ itemsFromRow parts rows (i + 1) n
+    pub row-free :
+        kindIn rows i ≡ freeRow
+        → itemsFromRow parts rows i (suc n) ≡ free (moduleIn parts rows i) ∷ itemsFromRow parts rows (i + 1) n
     unfolding itemsFromRow
     row-free e = rw e
 
@@ -21,7 +23,9 @@ module _ (parts rows : List ℕ) where
     unfolding itemsFromRow
     row-member e = rw e
 
-    pub row-section : kindIn rows i ≡ sectionRow → itemsFromRow parts rows i (suc n) ≡ sectionIn parts rows i ∷ itemsFromRow parts rows (i + 1) n
+    pub row-section :
+        kindIn rows i ≡ sectionRow
+        → itemsFromRow parts rows i (suc n) ≡ sectionIn parts rows i ∷ itemsFromRow parts rows (i + 1) n
     unfolding itemsFromRow
     row-section e = rw e
 
@@ -44,7 +48,10 @@ module _ (parts rows : List ℕ) where
         rest : List Item
         rest = itemsFromRow parts rows (i + 1) n
 
-        go : (a b : Bool) → Every P (cond a (free (moduleIn parts rows i) ∷ rest) (cond b (sectionIn parts rows i ∷ rest) rest)) → Every P rest
+        go :
+            (a b : Bool)
+            → Every P (cond a (free (moduleIn parts rows i) ∷ rest) (cond b (sectionIn parts rows i ∷ rest) rest))
+            → Every P rest
         go true b k = k .1
         go false true k = k .1
         go false false k = k
@@ -63,13 +70,15 @@ module _ (parts rows : List ℕ) where
         let z : i + suc k ≡ i + 1 + k = omega arith in
         subst (λ (j : ℕ). P (x j)) (sym z) (at-row kind x first n (i + 1) k (behind i n h) (omega arith) (rw z at e))
 
-    pub at-free : (n k : ℕ) → Every P (itemsIn parts rows n) → k < n → kindIn rows k ≡ freeRow → P (free (moduleIn parts rows k))
+    pub at-free :
+        (n k : ℕ) → Every P (itemsIn parts rows n) → k < n → kindIn rows k ≡ freeRow → P (free (moduleIn parts rows k))
     unfolding itemsIn
     at-free n k h l e =
         let z : 0 + k ≡ k = omega arith in
         rw z at (at-row freeRow (λ i. free (moduleIn parts rows i)) row-free n 0 k h l (rw z e))
 
-    pub at-section : (n k : ℕ) → Every P (itemsIn parts rows n) → k < n → kindIn rows k ≡ sectionRow → P (sectionIn parts rows k)
+    pub at-section :
+        (n k : ℕ) → Every P (itemsIn parts rows n) → k < n → kindIn rows k ≡ sectionRow → P (sectionIn parts rows k)
     unfolding itemsIn
     at-section n k h l e =
         let z : 0 + k ≡ k = omega arith in
@@ -81,7 +90,8 @@ module _ (parts rows : List ℕ) where
   modules-length zero i = refl
   modules-length (suc n) i = ap suc (modules-length n (i + 1))
 
-  pub at-member : (P : Module → Type 0) (n i k : ℕ) → Every P (modulesIn parts rows i n) → k < n → P (moduleIn parts rows (i + k))
+  pub at-member :
+      (P : Module → Type 0) (n i k : ℕ) → Every P (modulesIn parts rows i n) → k < n → P (moduleIn parts rows (i + k))
   unfolding modulesIn
   at-member P zero i k h l = absurd (omega arith)
   at-member P (suc n) i zero h l = let z : i ≡ i + 0 = omega arith in subst (λ (j : ℕ). P (moduleIn parts rows j)) z (h .0)

@@ -19,7 +19,9 @@ same-length : tie.Need-same-length
 same-length c = search needs
 
 returns : tie.Need-returns
-returns c = fills-part _ (c .before .before .before .before .before .part-head .ensures) (c .before .before .before .before .part-body .ensures) (c .before .before .before .put .ensures)
+returns c =
+    let p = c .before .before .before in
+    fills-part _ (p .before .before .part-head .ensures) (p .before .part-body .ensures) (p .put .ensures)
 
 pub add-part-spec : {M : Type 1} → statement M
 add-part-spec =

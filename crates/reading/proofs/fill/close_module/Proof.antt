@@ -26,7 +26,9 @@ same-length : tie.Need-same-length
 same-length c = search needs
 
 returns : tie.Need-returns
-returns c = fills-member (c .before .before .before .put .ensures) _ _ (c .before .before .before .before .before .if1 .taken) refl refl
+returns c =
+    let p = c .before .before .before in
+    fills-member (p .put .ensures) _ _ (p .before .before .if1 .taken) refl refl
 
 mul-put-2 : tie.Need-mul-put-2
 mul-put-2 c = search needs
@@ -47,7 +49,9 @@ same-length-2 : tie.Need-same-length-2
 same-length-2 c = search needs
 
 returns-2 : tie.Need-returns-2
-returns-2 c = fills-free (c .before .before .before .before .put2 .ensures) _ _ (c .before .before .before .before .before .before .if1 .left) refl refl
+returns-2 c =
+    let p = c .before .before .before .before in
+    fills-free (p .put2 .ensures) _ _ (p .before .before .if1 .left) refl refl
 
 pub close-module-spec : {M : Type 1} → statement M
 close-module-spec =
