@@ -1,0 +1,45 @@
+-- What is read of fields, as the rules have it. The code keeps numbers and names apart, by their types; the rules keep one list of values.
+use Prim.Native.Nat.{ℕ, zero, suc, _+_, _-_}
+use mathlib.Core.Bool.{false, cond}
+use mathlib.Core.List.{List, [], _∷_, _++_}
+use mathlib.Core.Path.{_≡_}
+use lib.ListN.{getD}
+use Rattle.rules.specs.Text.{fieldsOf}
+use Rattle.rules.specs.Line.{nth, Held, value, wrong, Fitted, fits, misfit, fault, fit}
+use Rattle.rules.specs.declared.line.FaultKind.{FaultKind}
+use Rattle.rules.specs.declared.line.Kind.{Kind}
+use Rattle.rules.specs.declared.line.Kind.the-variants.{Number, Name, Anything, Marker}
+use Rattle.text.specs.Scan.{part}
+use Rattle.record.specs.declared.fields.FieldRead.{FieldRead}
+use Rattle.record.specs.declared.fields.FieldRead.the-variants.{Value, Wrong}
+use Rattle.record.specs.declared.fitting.FieldsRead.{FieldsRead}
+
+-- the value of a field of that kind, of which this number and this name were read
+abbrev pub valueAs : Kind → ℕ → ℕ → ℕ
+valueAs (Number low high j) number name = number
+valueAs Name number name = name
+valueAs Anything number name = 0
+valueAs (Marker c) number name = 0
+
+-- the answer of `read_field`
+unfoldable pub asHeld : Kind → FieldRead → Held
+asHeld k (Value number name) = value (valueAs k number name)
+asHeld k (Wrong j) = wrong j
+
+-- the values of the first n fields of a line
+unfoldable pub valuesOf : ℕ → List Kind → List ℕ → List ℕ → List ℕ
+valuesOf zero ks numbers names = []
+valuesOf (suc k) ks numbers names =
+    valuesOf k ks numbers names ++ (valueAs (getD ks k Anything) (nth numbers k) (nth names k) ∷ [])
+
+-- the answer of `fit`
+unfoldable pub asFitted : ℕ → List Kind → FieldsRead → Fitted
+asFitted n ks r = cond (r .fits) (fits (valuesOf n ks (r .numbers) (r .names))) (misfit (r .fault))
+
+pub record Misfit (kind : FaultKind) (column : ℕ) (r : FieldsRead) : Type 0 where
+  pub fits-not : r .fits ≡ false
+  pub fault-is : r .fault ≡ fault kind column
+
+-- the fields of the line from `at` to stop against kinds: a field too few is told one past its last byte
+unfoldable pub fitLine : List Kind → ℕ → ℕ → List ℕ → Fitted
+fitLine ks at stop file = fit (stop - at + 1) ks (fieldsOf (part at stop file))

@@ -1,0 +1,77 @@
+// The fields of a line against the kinds that they have to be.
+use crate::fields::FieldRead;
+use crate::fields::read_field;
+use rules::line::Fault;
+use rules::line::FaultKind;
+use rules::line::Kind;
+use text::fields::field_start;
+use text::fields::next_field;
+ghost use mathlib.Core.Bool.{cond};
+ghost use mathlib.Core.Path.{_≡_};
+ghost use Prim.Native.Nat.{_≤_};
+ghost use lib.ListN.{take};
+ghost use Rattle.rules.specs.declared.line.LineAnswer.the-variants.{Bad};
+ghost use Rattle.rules.specs.Line.{fault};
+ghost use Rattle.text.specs.Scan.{InFile};
+ghost use Rattle.record.specs.Fitting.{asFitted, fitLine, Misfit};
+
+// What the fields hold, each at its place, or the leftmost fault among them.
+pub struct FieldsRead {
+    pub fits: bool,
+    pub fault: Fault,
+    pub numbers: [u16; 8],
+    pub names: [u64; 8],
+}
+
+fn misfit(kind: FaultKind, column: usize) -> FieldsRead
+    ensures { λ r. ⌜ Misfit kind column r ⌝ }
+{
+    FieldsRead {
+        fits: false,
+        fault: Fault { kind, column },
+        numbers: [0; 8],
+        names: [0; 8],
+    }
+}
+
+// The fields of the line, which have to be of the first `n` kinds and no more.
+pub fn fit(file: &[u8], at: usize, stop: usize, kinds: [Kind; 8], n: usize) -> FieldsRead
+    requires { ⌜ InFile at stop (now file) ⌝ }
+    requires { ⌜ n ≤ 8 ⌝ }
+    ensures { λ r. ⌜ asFitted n kinds r ≡ fitLine (take n kinds) at stop (now (file .entry)) ⌝ }
+{
+    let mut numbers = [0u16; 8];
+    let mut names = [0u64; 8];
+    let mut i = at;
+    let mut k = 0;
+    while k < n {
+        let start = field_start(file, i, stop);
+        if start == stop {
+            return misfit(FaultKind::FieldCount, stop - at + 1);
+        }
+        let field = next_field(file, start, stop);
+        let kind = kinds[k];
+        match read_field(field, kind) {
+            FieldRead::Value { number, name } => {
+                numbers[k] = number;
+                names[k] = name;
+                i = start + field.len();
+                k += 1;
+            }
+            FieldRead::Wrong(fault) => return misfit(fault, start - at + 1),
+        }
+    }
+    let start = field_start(file, i, stop);
+    if start < stop {
+        return misfit(FaultKind::FieldCount, start - at + 1);
+    }
+    FieldsRead {
+        fits: true,
+        fault: Fault {
+            kind: FaultKind::FieldCount,
+            column: 0,
+        },
+        numbers,
+        names,
+    }
+}
