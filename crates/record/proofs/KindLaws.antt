@@ -6,8 +6,9 @@ use mathlib.Core.Bool.{Bool, true, false}
 use mathlib.Core.List.{List}
 use mathlib.Core.Option.{Option, none, some}
 use mathlib.Core.Path.{_≡_, refl, sym, ap, _∙_}
+use lib.Dec.{eqb}
 use Rattle.rules.specs.Text.{between, numberOf, nameOf}
-use Rattle.rules.specs.Line.{value, wrong, held, inBounds, readField, sameText, markerOf}
+use Rattle.rules.specs.Line.{value, wrong, held, inBounds, readField, sameText, markerOf, isOne}
 use Rattle.rules.specs.declared.line.FaultKind.{FaultKind}
 use Rattle.rules.specs.declared.line.FaultKind.the-variants.{BadMarker, BadNumber, BadName}
 use Rattle.rules.specs.declared.line.Kind.the-variants.{Number, Name, Marker}
@@ -77,3 +78,14 @@ module _ (f : List ℕ) (c : ℕ) {t : Bool} (e : t ≡ sameText f (markerOf c))
   pub marker-no : t ≡ false → wrong BadMarker ≡ readField (Marker c) f
   unfolding readField
   marker-no g = simp (sym e ∙ g)
+
+-- ---- is a field the number 1
+
+module _ (f : List ℕ) {r : AnyNumber} (e : r ≡ asNumber (numberOf f)) where
+  pub one-is : {n : ℕ} → r ≡ Value n → eqb n 1 ≡ isOne (numberOf f)
+  unfolding isOne
+  one-is g = rw (number-in (numberOf f) (sym e ∙ g))
+
+  pub one-not : r ≡ NotANumber → false ≡ isOne (numberOf f)
+  unfolding isOne
+  one-not g = rw (number-out (numberOf f) (sym e ∙ g))

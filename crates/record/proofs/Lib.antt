@@ -1,2 +1,4 @@
 pub mod KindLaws
 pub mod FitLaws
+pub mod PeekLaws
+pub mod RecordLaws

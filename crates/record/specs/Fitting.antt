@@ -1,11 +1,11 @@
 -- What is read of fields, as the rules have it. The code keeps numbers and names apart, by their types; the rules keep one list of values.
-use Prim.Native.Nat.{ℕ, zero, suc, _+_, _-_}
+use Prim.Native.Nat.{ℕ, zero, suc, _+_, _-_, _≤_}
 use mathlib.Core.Bool.{false, cond}
 use mathlib.Core.List.{List, [], _∷_, _++_}
 use mathlib.Core.Path.{_≡_}
 use lib.ListN.{getD}
-use Rattle.rules.specs.Text.{fieldsOf}
-use Rattle.rules.specs.Line.{nth, Held, value, wrong, Fitted, fits, misfit, fault, fit}
+use Rattle.rules.specs.Text.{Field, fieldsFrom, fieldsOf}
+use Rattle.rules.specs.Line.{nth, Held, value, wrong, Fitted, fits, misfit, fault, fit, textAt}
 use Rattle.rules.specs.declared.line.FaultKind.{FaultKind}
 use Rattle.rules.specs.declared.line.Kind.{Kind}
 use Rattle.rules.specs.declared.line.Kind.the-variants.{Number, Name, Anything, Marker}
@@ -40,6 +40,20 @@ pub record Misfit (kind : FaultKind) (column : ℕ) (r : FieldsRead) : Type 0 wh
   pub fits-not : r .fits ≡ false
   pub fault-is : r .fault ≡ fault kind column
 
--- the fields of the line from `at` to stop against kinds: a field too few is told one past its last byte
+-- the fields of the line from `at` to stop, and the column behind its last byte
+abbrev pub lineFields : ℕ → ℕ → List ℕ → List Field
+lineFields at stop file = fieldsOf (part at stop file)
+
+abbrev pub endColumn : ℕ → ℕ → ℕ
+endColumn at stop = stop - at + 1
+
+-- the same fields against kinds
 unfoldable pub fitLine : List Kind → ℕ → ℕ → List ℕ → Fitted
-fitLine ks at stop file = fit (stop - at + 1) ks (fieldsOf (part at stop file))
+fitLine ks at stop file = fit (endColumn at stop) ks (lineFields at stop file)
+
+-- r stands behind the first field of the text from i to stop, or at stop where it has none
+pub record FieldPassed (i stop : ℕ) (file : List ℕ) (r : ℕ) : Type 0 where
+  pub least : i ≤ r
+  pub most : r ≤ stop
+  pub texts : (c k : ℕ) →
+      textAt (fieldsFrom c (part i stop file)) (suc k) ≡ textAt (fieldsFrom (c + (r - i)) (part r stop file)) k

@@ -4,6 +4,7 @@ use crate::fields::read_field;
 use rules::line::Fault;
 use rules::line::FaultKind;
 use rules::line::Kind;
+use rules::line::LineAnswer;
 use text::fields::field_start;
 use text::fields::next_field;
 ghost use mathlib.Core.Bool.{cond};
@@ -74,4 +75,20 @@ pub fn fit(file: &[u8], at: usize, stop: usize, kinds: [Kind; 8], n: usize) -> F
         numbers,
         names,
     }
+}
+
+// What a line says: `answer` where its fields fit, else their fault.
+pub fn said(fits: bool, fault: Fault, answer: LineAnswer) -> LineAnswer
+    ensures { λ r. ⌜ r ≡ cond fits answer (Bad fault) ⌝ }
+{
+    if fits {
+        return answer;
+    }
+    LineAnswer::Bad(fault)
+}
+
+pub fn bad(kind: FaultKind, column: usize) -> LineAnswer
+    ensures { λ r. ⌜ r ≡ Bad (fault kind column) ⌝ }
+{
+    LineAnswer::Bad(Fault { kind, column })
 }
