@@ -3,22 +3,21 @@
 use Prim.Native.Nat.{ℕ, zero, suc, _+_, _-_, _≤_, _<_}
 use native.Mathlib.Omega.{arith}
 use mathlib.Core.Bool.{Bool, true, false}
-use mathlib.Core.List.{List, [], _∷_, _++_, append-assoc, append-nil}
+use mathlib.Core.List.{List, [], _∷_, _++_, map, append-assoc, append-nil}
 use mathlib.Core.Path.{_≡_, refl, sym, ap, ap₂, _∙_}
-use lib.ListN.{length, take, drop, getD, set, length-take, length-set, drop-of-length-le}
-use lib.Seq.{drop-cons, getD-take, getD-set-same, getD-set-other}
+use lib.ListN.{length, drop, set, length-set, drop-of-length-le}
+use lib.Seq.{drop-cons, getD-set-same, getD-set-other}
 use native.Mathlib.Numerals.{add-one}
 use Rattle.rules.specs.Text.{Field, fieldsFrom, fieldsOf}
-use Rattle.rules.specs.Line.{Held, value, wrong, readField, Fitted, fits, misfit, inFront, fit, fault}
+use Rattle.rules.specs.Line.{nth, Held, value, wrong, readField, Fitted, fits, misfit, inFront, fit, fault}
 use Rattle.rules.specs.declared.line.Fault.{Fault}
 use Rattle.rules.specs.declared.line.FaultKind.{FaultKind}
 use Rattle.rules.specs.declared.line.FaultKind.the-variants.{FieldCount}
 use Rattle.rules.specs.declared.line.Kind.{Kind}
-use Rattle.rules.specs.declared.line.Kind.the-variants.{Anything}
 use Rattle.text.specs.Scan.{part, InFile}
 use Rattle.text.specs.FieldBounds.{fieldStart, fieldStop}
 use Rattle.text.proofs.FieldLaws.{FieldFound, field, field-found, no-field, start-least, start-most}
-use Rattle.record.specs.Fitting.{valueAs, asHeld, valuesOf, asFitted, Misfit, fitLine}
+use Rattle.record.specs.Fitting.{kindOf, valueAs, asHeld, valuesOf, asFitted, Misfit, lineFields, fitLine}
 use Rattle.record.specs.declared.fields.FieldRead.{FieldRead}
 use Rattle.record.specs.declared.fields.FieldRead.the-variants.{Value, Wrong}
 use Rattle.record.specs.declared.fitting.FieldsRead.{FieldsRead}
@@ -51,10 +50,10 @@ pub record Fitting (ks : List Kind) (at stop : ℕ) (l : List ℕ) (done : List 
   pub from : at ≤ i
   pub to : i ≤ stop
   pub size : stop ≤ length l
-  pub same : behind done (fit (stop - at + 1) rest (fieldsFrom (i - at + 1) (part i stop l))) ≡ fitLine ks at stop l
+  pub same : behind done (fit (stop - at + 1) rest (fieldsFrom (i - at + 1) (part i stop l))) ≡ fit (stop - at + 1) ks (lineFields at stop l)
 
 pub fitting-start : (ks : List Kind) (at stop : ℕ) (l : List ℕ) → InFile at stop l → Fitting ks at stop l [] ks at
-unfolding fitLine fieldsOf
+unfolding fieldsOf
 fitting-start ks at stop l h =
     let first : at - at + 1 ≡ 1 = omega arith in
     record {
@@ -67,7 +66,7 @@ fitting-start ks at stop l h =
 module _ {ks : List Kind} {at stop : ℕ} {l done : List ℕ} {i : ℕ} (s : ℕ) (e : s ≡ fieldStart i stop l) where
   module _ {k : Kind} {rest : List Kind} (f : Fitting ks at stop l done (k ∷ rest) i) where
     -- a field too few
-    pub fitting-few : s ≡ stop → misfit (fault FieldCount (stop - at + 1)) ≡ fitLine ks at stop l
+    pub fitting-few : s ≡ stop → misfit (fault FieldCount (stop - at + 1)) ≡ fit (stop - at + 1) ks (lineFields at stop l)
     unfolding behind fit
     fitting-few g =
         rw (no-field i stop s l (record { order = f .to; size = f .size }) e g (i - at + 1)) at (f .same)
@@ -80,14 +79,14 @@ module _ {ks : List Kind} {at stop : ℕ} {l done : List ℕ} {i : ℕ} (s : ℕ
       least : i ≤ s
       least = omega (arith, start-least i stop l (record { order = f .to; size = f .size }))
 
-      here : behind done (inFront (s - at + 1) (readField k t) (fit (stop - at + 1) rest (fieldsFrom (s + length t - at + 1) (part (s + length t) stop l)))) ≡ fitLine ks at stop l
+      here : behind done (inFront (s - at + 1) (readField k t) (fit (stop - at + 1) rest (fieldsFrom (s + length t - at + 1) (part (s + length t) stop l)))) ≡ fit (stop - at + 1) ks (lineFields at stop l)
       here =
           let c : i - at + 1 + (s - i) ≡ s - at + 1 = omega (arith, least, f .from) in
           let n : i - at + 1 + (s + length t - i) ≡ s + length t - at + 1 = omega (arith, least, f .from) in
           ap (behind done) (sym (ap (fit (stop - at + 1) (k ∷ rest)) (found .fields (i - at + 1) ∙ ap₂ (λ (m o : ℕ). field m t ∷ fieldsFrom o (part (s + length t) stop l)) c n) ∙ fit-first _ k rest _ t _))
           ∙ f .same
 
-      pub fitting-wrong : {j : FaultKind} → wrong j ≡ readField k t → misfit (fault j (s - at + 1)) ≡ fitLine ks at stop l
+      pub fitting-wrong : {j : FaultKind} → wrong j ≡ readField k t → misfit (fault j (s - at + 1)) ≡ fit (stop - at + 1) ks (lineFields at stop l)
       unfolding behind inFront
       fitting-wrong h = rw (← h) at here
 
@@ -102,7 +101,7 @@ module _ {ks : List Kind} {at stop : ℕ} {l done : List ℕ} {i : ℕ} (s : ℕ
 
   module _ (f : Fitting ks at stop l done [] i) where
     -- a field too many
-    pub fitting-many : s < stop → misfit (fault FieldCount (s - at + 1)) ≡ fitLine ks at stop l
+    pub fitting-many : s < stop → misfit (fault FieldCount (s - at + 1)) ≡ fit (stop - at + 1) ks (lineFields at stop l)
     unfolding behind fit
     fitting-many g =
         let h : InFile i stop l = record { order = f .to; size = f .size } in
@@ -110,7 +109,7 @@ module _ {ks : List Kind} {at stop : ℕ} {l done : List ℕ} {i : ℕ} (s : ℕ
         rw (field-found i stop s l h e g _ refl .fields (i - at + 1), c) at (f .same)
 
     -- all fields fit
-    pub fitting-end : stop ≤ s → fits done ≡ fitLine ks at stop l
+    pub fitting-end : stop ≤ s → fits done ≡ fit (stop - at + 1) ks (lineFields at stop l)
     unfolding behind fit
     fitting-end g =
         let h : InFile i stop l = record { order = f .to; size = f .size } in
@@ -119,7 +118,7 @@ module _ {ks : List Kind} {at stop : ℕ} {l done : List ℕ} {i : ℕ} (s : ℕ
 
 -- ---- the loop's numbers and names
 
-module _ (kinds : List Kind) (numbers names : List ℕ) (k a b : ℕ) where
+module _ (kinds numbers names : List ℕ) (k a b : ℕ) where
   -- what stands at k does not count among the first values
   values-kept : (m : ℕ) → m ≤ k → valuesOf m kinds (set numbers k a) (set names k b) ≡ valuesOf m kinds numbers names
   unfolding valuesOf
@@ -128,88 +127,73 @@ module _ (kinds : List Kind) (numbers names : List ℕ) (k a b : ℕ) where
       rw (values-kept m (omega arith), getD-set-other numbers k m a 0 (λ e. omega arith), getD-set-other names k m b 0 (λ e. omega arith))
 
   values-more : k < length numbers → k < length names →
-      valuesOf (suc k) kinds (set numbers k a) (set names k b) ≡ valuesOf k kinds numbers names ++ (valueAs (getD kinds k Anything) a b ∷ [])
+      valuesOf (suc k) kinds (set numbers k a) (set names k b) ≡ valuesOf k kinds numbers names ++ (valueAs (kindOf (nth kinds k)) a b ∷ [])
   unfolding valuesOf
   values-more h g = rw (values-kept k (omega arith), getD-set-same numbers k a 0 h, getD-set-same names k b 0 g)
 
-any-default : (kinds : List Kind) (k : ℕ) (d e : Kind) → k < length kinds → getD kinds k d ≡ getD kinds k e
-any-default [] k d e h = absurd (omega arith)
-any-default (x ∷ xs) zero d e h = refl
-any-default (x ∷ xs) (suc k) d e h = any-default xs k d e (omega arith)
-
-rest-more : (kinds : List Kind) (n k : ℕ) → k < n → k < length kinds →
-    drop k (take n kinds) ≡ getD kinds k Anything ∷ drop (suc k) (take n kinds)
-rest-more kinds n k h g =
-    drop-cons (take n kinds) k Anything (simp length-take (omega arith))
-    ∙ ap (λ (d : Kind). d ∷ drop (suc k) (take n kinds)) (getD-take n kinds k Anything h)
-
 -- k fields are read
-pub record Kept (n : ℕ) (kinds : List Kind) (at stop : ℕ) (l numbers names : List ℕ) (i k : ℕ) : Type 0 where
-  pub most : k ≤ n
-  pub few : n ≤ 8
-  pub kinds-size : length kinds ≡ 8
+pub record Kept (kinds : List ℕ) (at stop : ℕ) (l numbers names : List ℕ) (i k : ℕ) : Type 0 where
+  pub most : k ≤ length kinds
+  pub few : length kinds ≤ 8
   pub numbers-size : length numbers ≡ 8
   pub names-size : length names ≡ 8
-  pub fitting : Fitting (take n kinds) at stop l (valuesOf k kinds numbers names) (drop k (take n kinds)) i
+  pub fitting : Fitting (map kindOf kinds) at stop l (valuesOf k kinds numbers names) (map kindOf (drop k kinds)) i
 
-pub kept-start : (n : ℕ) (kinds : List Kind) (at stop : ℕ) (l numbers names : List ℕ) → InFile at stop l → n ≤ 8 →
-    length kinds ≡ 8 → length numbers ≡ 8 → length names ≡ 8 → Kept n kinds at stop l numbers names at 0
+pub kept-start : (kinds : List ℕ) (at stop : ℕ) (l numbers names : List ℕ) → InFile at stop l → length kinds ≤ 8 →
+    length numbers ≡ 8 → length names ≡ 8 → Kept kinds at stop l numbers names at 0
 unfolding valuesOf
-kept-start n kinds at stop l numbers names h few size e g =
+kept-start kinds at stop l numbers names h few e g =
     record {
       most = omega arith;
       few = few;
-      kinds-size = size;
       numbers-size = e;
       names-size = g;
-      fitting = fitting-start (take n kinds) at stop l h;
+      fitting = fitting-start (map kindOf kinds) at stop l h;
     }
 
-as-misfit : (n : ℕ) (kinds : List Kind) {j : FaultKind} {c : ℕ} {r : FieldsRead} → Misfit j c r → asFitted n kinds r ≡ misfit (fault j c)
+as-misfit : (kinds : List ℕ) {j : FaultKind} {c : ℕ} {r : FieldsRead} → Misfit j c r → asFitted kinds r ≡ misfit (fault j c)
 unfolding asFitted
-as-misfit n kinds m = rw (m .fits-not, m .fault-is)
+as-misfit kinds m = rw (m .fits-not, m .fault-is)
 
-module _ {n : ℕ} {kinds : List Kind} {at stop : ℕ} {l numbers names : List ℕ} {i k : ℕ} (q : Kept n kinds at stop l numbers names i k) where
+module _ {kinds : List ℕ} {at stop : ℕ} {l numbers names : List ℕ} {i k : ℕ} (q : Kept kinds at stop l numbers names i k) where
   abbrev Fits : FieldsRead → Type 0
-  Fits r = asFitted n kinds r ≡ fitLine (take n kinds) at stop l
+  Fits r = asFitted kinds r ≡ fitLine kinds at stop l
 
-  module _ (h : k < n) {s : ℕ} (e : s ≡ fieldStart i stop l) where
-    next : Fitting (take n kinds) at stop l (valuesOf k kinds numbers names) (getD kinds k Anything ∷ drop (suc k) (take n kinds)) i
-    next = rw (rest-more kinds n k h (omega (arith, q .kinds-size, q .few))) at (q .fitting)
-
-    kind-is : (d : Kind) → getD kinds k d ≡ getD kinds k Anything
-    kind-is d = any-default kinds k d Anything (omega (arith, q .kinds-size, q .few))
+  module _ (h : k < length kinds) {s : ℕ} (e : s ≡ fieldStart i stop l) where
+    next : Fitting (map kindOf kinds) at stop l (valuesOf k kinds numbers names) (kindOf (nth kinds k) ∷ map kindOf (drop (suc k) kinds)) i
+    next = rw (drop-cons kinds k 0 h) at (q .fitting)
 
     pub kept-few : s ≡ stop → {r : FieldsRead} → Misfit FieldCount (stop - at + 1) r → Fits r
-    kept-few g m = as-misfit n kinds m ∙ fitting-few s e next g
+    unfolding fitLine
+    kept-few g m = as-misfit kinds m ∙ fitting-few s e next g
 
     module _ (g : s < stop) {t : List ℕ} (b : t ≡ part (fieldStart s stop l) (fieldStop s stop l) l)
-        (d : Kind) {f : FieldRead} (a : asHeld (getD kinds k d) f ≡ readField (getD kinds k d) t) where
+        {f : FieldRead} (a : asHeld (kindOf (nth kinds k)) f ≡ readField (kindOf (nth kinds k)) t) where
       pub kept-wrong : {j : FaultKind} → f ≡ Wrong j → {r : FieldsRead} → Misfit j (s - at + 1) r → Fits r
-      unfolding asHeld
-      kept-wrong w m = as-misfit n kinds m ∙ fitting-wrong s e next g t b (rw (w, kind-is d) at a)
+      unfolding asHeld fitLine
+      kept-wrong w m = as-misfit kinds m ∙ fitting-wrong s e next g t b (rw w at a)
 
-      pub kept-step : {x y : ℕ} → f ≡ Value x y → Kept n kinds at stop l (set numbers k x) (set names k y) (s + length t) (k + 1)
+      pub kept-step : {x y : ℕ} → f ≡ Value x y → Kept kinds at stop l (set numbers k x) (set names k y) (s + length t) (k + 1)
       unfolding asHeld
       kept-step {x} {y} v =
           record {
             most = omega arith;
             few = q .few;
-            kinds-size = q .kinds-size;
             numbers-size = length-set numbers k x ∙ q .numbers-size;
             names-size = length-set names k y ∙ q .names-size;
-            fitting = rw (add-one, values-more kinds numbers names k x y (omega (arith, q .numbers-size, q .few)) (omega (arith, q .names-size, q .few))) (fitting-step s e next g t b (rw (v, kind-is d) at a));
+            fitting = rw (add-one, values-more kinds numbers names k x y (omega (arith, q .numbers-size, q .few)) (omega (arith, q .names-size, q .few))) (fitting-step s e next g t b (rw v at a));
           }
 
-  module _ (h : n ≤ k) {s : ℕ} (e : s ≡ fieldStart i stop l) where
-    last : Fitting (take n kinds) at stop l (valuesOf n kinds numbers names) [] i
+  module _ (h : length kinds ≤ k) {s : ℕ} (e : s ≡ fieldStart i stop l) where
+    last : Fitting (map kindOf kinds) at stop l (valuesOf (length kinds) kinds numbers names) [] i
     last =
-        let m : k ≡ n = omega (arith, q .most) in
-        rw (m, drop-of-length-le (take n kinds) {i = n} (simp length-take (omega arith))) at (q .fitting)
+        let m : k ≡ length kinds = omega (arith, q .most) in
+        rw (drop-of-length-le kinds h, m) at (q .fitting)
 
     pub kept-many : s < stop → {r : FieldsRead} → Misfit FieldCount (s - at + 1) r → Fits r
-    kept-many g m = as-misfit n kinds m ∙ fitting-many s e last g
+    unfolding fitLine
+    kept-many g m = as-misfit kinds m ∙ fitting-many s e last g
 
     pub kept-end : stop ≤ s → (j : Fault) → Fits (record { fits = true; fault = j; numbers = numbers; names = names })
-    unfolding asFitted
+    unfolding asFitted fitLine
     kept-end g j = fitting-end s e last g

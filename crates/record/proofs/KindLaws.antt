@@ -1,12 +1,13 @@
 -- A field against its kind: what the readers of numbers, names and markers answer, as the rules have it.
 -- Assumes nothing.
-use Prim.Native.Nat.{ℕ, _≤_, _<_}
+use Prim.Native.Nat.{ℕ, suc, _-_, _≤_, _<_}
 use native.Mathlib.Omega.{arith}
 use mathlib.Core.Bool.{Bool, true, false}
 use mathlib.Core.List.{List}
 use mathlib.Core.Option.{Option, none, some}
 use mathlib.Core.Path.{_≡_, refl, sym, ap, _∙_}
 use lib.Dec.{eqb}
+use borrow.Author.Tests.{ne-eqb}
 use Rattle.rules.specs.Text.{between, numberOf, nameOf}
 use Rattle.rules.specs.Line.{value, wrong, held, inBounds, readField, sameText, markerOf, isOne}
 use Rattle.rules.specs.declared.line.FaultKind.{FaultKind}
@@ -18,6 +19,7 @@ use Rattle.text.specs.declared.numbers.Number.the-variants.{Value, NotANumber}
 use Rattle.text.specs.declared.names.Name.{Name as AnyName}
 use Rattle.text.specs.declared.names.Name.the-variants.{Packed, NotAName}
 use Rattle.text.proofs.ScanLaws.{between-yes, between-low, between-high}
+use Rattle.record.specs.Fitting.{kindOf}
 
 -- ---- numbers and names
 
@@ -89,3 +91,21 @@ module _ (f : List ℕ) {r : AnyNumber} (e : r ≡ asNumber (numberOf f)) where
   pub one-not : r ≡ NotANumber → false ≡ isOne (numberOf f)
   unfolding isOne
   one-not g = rw (number-out (numberOf f) (sym e ∙ g))
+
+-- ---- the numbers of the kinds
+
+-- a number past the named ones is a marker's
+pub record MarkerNumber (k : ℕ) : Type 0 where
+  pub least : 7 ≤ k
+  pub is : kindOf k ≡ Marker (k - 7)
+
+above : {n k : ℕ} → (k ≡ n → ⊥) → n ≤ k → suc n ≤ k
+above e h = omega arith
+
+pub marker-number : (k : ℕ) → (k ≡ 0 → ⊥) → (k ≡ 1 → ⊥) → (k ≡ 2 → ⊥) → (k ≡ 3 → ⊥) → (k ≡ 4 → ⊥) → (k ≡ 5 → ⊥) → (k ≡ 6 → ⊥) → MarkerNumber k
+unfolding kindOf
+marker-number k n0 n1 n2 n3 n4 n5 n6 =
+    record {
+      least = above n6 (above n5 (above n4 (above n3 (above n2 (above n1 (above n0 (omega arith)))))));
+      is = simp (ne-eqb k 0 n0, ne-eqb k 1 n1, ne-eqb k 2 n2, ne-eqb k 3 n3, ne-eqb k 4 n4, ne-eqb k 5 n5, ne-eqb k 6 n6);
+    }

@@ -7,14 +7,14 @@ use native.Mathlib.Omega.{arith}
 use mathlib.Core.Bool.{Bool, true, false, cond}
 use mathlib.Core.List.{List, [], _∷_, _++_}
 use mathlib.Core.Path.{_≡_, refl, sym, ap, ap₂, _∙_}
-use lib.ListN.{length, take, replicate, length-append}
+use lib.ListN.{length, replicate, length-append}
 use Rattle.rules.specs.Text.{numberOf}
 use Rattle.rules.specs.Line.{nth, number, Fitted, fits, misfit, fault, fit, said, wordOf, codeWord, relocationOf, starred, codeLine, entry, isOne, textAt, entryLine}
 use Rattle.rules.specs.declared.line.Fault.{Fault}
 use Rattle.rules.specs.declared.line.FaultKind.{FaultKind}
 use Rattle.rules.specs.declared.line.FaultKind.the-variants.{FieldCount, BadNumber, BadType}
 use Rattle.rules.specs.declared.line.Kind.{Kind}
-use Rattle.rules.specs.declared.line.Kind.the-variants.{Number, Name, Anything, Marker}
+use Rattle.rules.specs.declared.line.Kind.the-variants.{Number}
 use Rattle.rules.specs.declared.line.Relocation.{Relocation}
 use Rattle.rules.specs.declared.line.Relocation.the-variants.{Plain}
 use Rattle.rules.specs.declared.line.LineAnswer.{LineAnswer}
@@ -24,54 +24,61 @@ use Rattle.text.specs.FieldBounds.{fieldStart, fieldStop}
 use Rattle.text.specs.Answers.{asNumber}
 use Rattle.text.specs.declared.numbers.Number.{Number as AnyNumber}
 use Rattle.text.specs.declared.numbers.Number.the-variants.{Value, NotANumber}
-use Rattle.record.specs.Fitting.{valuesOf, asFitted, lineFields, endColumn, fitLine}
+use Rattle.record.specs.Fitting.{kindOf, valuesOf, asFitted, lineFields, endColumn, fitLine}
 use Rattle.record.specs.declared.fitting.FieldsRead.{FieldsRead}
 use Rattle.record.proofs.KindLaws.{number-yes, number-no}
 use Rattle.record.proofs.FitLaws.{Fitting, fitting-start, fitting-few, fitting-wrong, fitting-step, fitting-many, fitting-end}
 
 -- the answer of a record that was read: `said` of the code is `said` of the rules
-pub says : (n : ℕ) (ks : List Kind) (r : FieldsRead) {f : Fitted} → asFitted n ks r ≡ f → (answer : List ℕ → LineAnswer) →
-    cond (r .fits) (answer (valuesOf n ks (r .numbers) (r .names))) (Bad (r .fault)) ≡ said answer f
+pub says : (ks : List ℕ) (r : FieldsRead) {f : Fitted} → asFitted ks r ≡ f → (answer : List ℕ → LineAnswer) →
+    cond (r .fits) (answer (valuesOf (length ks) ks (r .numbers) (r .names))) (Bad (r .fault)) ≡ said answer f
 unfolding asFitted said
-says n ks r e answer = rw (← e) (go (r .fits))
+says ks r e answer = rw (← e) (go (r .fits))
   where
-    go : (b : Bool) → cond b (answer (valuesOf n ks (r .numbers) (r .names))) (Bad (r .fault)) ≡ said answer (cond b (fits (valuesOf n ks (r .numbers) (r .names))) (misfit (r .fault)))
+    vs : List ℕ
+    vs = valuesOf (length ks) ks (r .numbers) (r .names)
+
+    go : (b : Bool) → cond b (answer vs) (Bad (r .fault)) ≡ said answer (cond b (fits vs) (misfit (r .fault)))
     go true = refl
     go false = refl
 
 -- ---- code records
 
-abbrev with-star : List Kind
-with-star = Anything ∷ number ∷ number ∷ number ∷ number ∷ Number 0 0 BadType ∷ Number 1 5 BadType ∷ number ∷ []
+-- the kinds by their numbers, as in the code
+abbrev with-star : List ℕ
+with-star = 0 ∷ 1 ∷ 1 ∷ 1 ∷ 1 ∷ 3 ∷ 4 ∷ 1 ∷ []
 
 pub starred-says : (at stop : ℕ) (l : List ℕ) (r : FieldsRead) {text : ℕ} {relocation : Relocation} →
-    starred (lineFields at stop l) ≡ true → asFitted 8 with-star r ≡ fitLine (take 8 with-star) at stop l →
+    starred (lineFields at stop l) ≡ true → asFitted with-star r ≡ fitLine with-star at stop l →
     text ≡ wordOf (nth (r .numbers) 1) (nth (r .numbers) 2) (nth (r .numbers) 3) (nth (r .numbers) 4) →
     relocation ≡ relocationOf (nth (r .numbers) 6) (nth (r .numbers) 7) →
     cond (r .fits) (Code (codeWord text relocation)) (Bad (r .fault)) ≡ codeLine (endColumn at stop) (lineFields at stop l)
-unfolding codeLine fitLine valuesOf
+unfolding codeLine fitLine valuesOf kindOf
 starred-says at stop l r s e t u =
     rw (s, t, u)
-    (says 8 with-star r e (λ v. Code (codeWord (wordOf (nth v 1) (nth v 2) (nth v 3) (nth v 4)) (relocationOf (nth v 6) (nth v 7)))))
+    (says with-star r e (λ v. Code (codeWord (wordOf (nth v 1) (nth v 2) (nth v 3) (nth v 4)) (relocationOf (nth v 6) (nth v 7)))))
 
 -- ---- entry records
 
-abbrev with-type : List Kind
-with-type = Name ∷ number ∷ Number 0 1 BadType ∷ number ∷ Anything ∷ Anything ∷ Anything ∷ Anything ∷ []
+abbrev relocated : List ℕ
+relocated = 2 ∷ 1 ∷ 5 ∷ 1 ∷ []
+
+abbrev absolute : List ℕ
+absolute = 2 ∷ 1 ∷ 5 ∷ []
 
 module _ (at stop : ℕ) (l : List ℕ) (r : FieldsRead) where
-  pub relocated-says : isOne (numberOf (textAt (lineFields at stop l) 2)) ≡ true → asFitted 4 with-type r ≡ fitLine (take 4 with-type) at stop l →
+  pub relocated-says : isOne (numberOf (textAt (lineFields at stop l) 2)) ≡ true → asFitted relocated r ≡ fitLine relocated at stop l →
       cond (r .fits) (Entered (entry (nth (r .names) 0) (nth (r .numbers) 1) true (nth (r .numbers) 3))) (Bad (r .fault))
       ≡ entryLine (endColumn at stop) (lineFields at stop l)
-  unfolding entryLine fitLine valuesOf
+  unfolding entryLine fitLine valuesOf kindOf
   relocated-says s e =
-      rw s (says 4 with-type r e (λ v. Entered (entry (nth v 0) (nth v 1) true (nth v 3))))
+      rw s (says relocated r e (λ v. Entered (entry (nth v 0) (nth v 1) true (nth v 3))))
 
-  pub absolute-says : isOne (numberOf (textAt (lineFields at stop l) 2)) ≡ false → asFitted 3 with-type r ≡ fitLine (take 3 with-type) at stop l →
+  pub absolute-says : isOne (numberOf (textAt (lineFields at stop l) 2)) ≡ false → asFitted absolute r ≡ fitLine absolute at stop l →
       cond (r .fits) (Entered (entry (nth (r .names) 0) (nth (r .numbers) 1) false 0)) (Bad (r .fault))
       ≡ entryLine (endColumn at stop) (lineFields at stop l)
-  unfolding entryLine fitLine valuesOf
-  absolute-says s e = rw s (says 3 with-type r e (λ v. Entered (entry (nth v 0) (nth v 1) false 0)))
+  unfolding entryLine fitLine valuesOf kindOf
+  absolute-says s e = rw s (says absolute r e (λ v. Entered (entry (nth v 0) (nth v 1) false 0)))
 
 -- ---- the loop over four quarters
 
@@ -124,8 +131,8 @@ module _ {at stop : ℕ} {l : List ℕ} {text i k : ℕ} (q : Quarters at stop l
   abbrev Says : LineAnswer → Type 0
   Says a = a ≡ codeLine (endColumn at stop) (lineFields at stop l)
 
-  told : {j : FaultKind} {c : ℕ} {a : LineAnswer} → a ≡ Bad (fault j c) → misfit (fault j c) ≡ fitLine quarters at stop l → Says a
-  unfolding codeLine said fitLine
+  told : {j : FaultKind} {c : ℕ} {a : LineAnswer} → a ≡ Bad (fault j c) → misfit (fault j c) ≡ fit (endColumn at stop) quarters (lineFields at stop l) → Says a
+  unfolding codeLine said
   told b e = b ∙ rw (q .plain, ← e)
 
   -- the text fits with room for one quarter more
@@ -164,7 +171,7 @@ module _ {at stop : ℕ} {l : List ℕ} {text i k : ℕ} (q : Quarters at stop l
     quarters-many g b = told b (fitting-many s e last g)
 
     pub quarters-end : stop ≤ s → Says (Code (codeWord text Plain))
-    unfolding codeLine said fitLine
+    unfolding codeLine said
     quarters-end g =
         let n : length (q .done) ≡ 4 = omega (arith, q .count, q .few) in
         rw (q .plain, ← (fitting-end s e last g), q .is, joined-four (q .done) n)

@@ -3,14 +3,13 @@ use crate::fields::FieldRead;
 use crate::fields::read_field;
 use rules::line::Fault;
 use rules::line::FaultKind;
-use rules::line::Kind;
 use rules::line::LineAnswer;
 use text::fields::field_start;
 use text::fields::next_field;
 ghost use mathlib.Core.Bool.{cond};
 ghost use mathlib.Core.Path.{_≡_};
 ghost use Prim.Native.Nat.{_≤_};
-ghost use lib.ListN.{take};
+ghost use lib.ListN.{length};
 ghost use Rattle.rules.specs.declared.line.LineAnswer.the-variants.{Bad};
 ghost use Rattle.rules.specs.Line.{fault};
 ghost use Rattle.text.specs.Scan.{InFile};
@@ -35,24 +34,23 @@ fn misfit(kind: FaultKind, column: usize) -> FieldsRead
     }
 }
 
-// The fields of the line, which have to be of the first `n` kinds and no more.
-pub fn fit(file: &[u8], at: usize, stop: usize, kinds: [Kind; 8], n: usize) -> FieldsRead
+// The fields of the line, which have to be of these kinds and no more.
+pub fn fit(file: &[u8], at: usize, stop: usize, kinds: &[u8]) -> FieldsRead
     requires { ⌜ InFile at stop (now file) ⌝ }
-    requires { ⌜ n ≤ 8 ⌝ }
-    ensures { λ r. ⌜ asFitted n kinds r ≡ fitLine (take n kinds) at stop (now (file .entry)) ⌝ }
+    requires { ⌜ length (now kinds) ≤ 8 ⌝ }
+    ensures { λ r. ⌜ asFitted (now (kinds .entry)) r ≡ fitLine (now (kinds .entry)) at stop (now (file .entry)) ⌝ }
 {
     let mut numbers = [0u16; 8];
     let mut names = [0u64; 8];
     let mut i = at;
     let mut k = 0;
-    while k < n {
+    while k < kinds.len() {
         let start = field_start(file, i, stop);
         if start == stop {
             return misfit(FaultKind::FieldCount, stop - at + 1);
         }
         let field = next_field(file, start, stop);
-        let kind = kinds[k];
-        match read_field(field, kind) {
+        match read_field(field, kinds[k]) {
             FieldRead::Value { number, name } => {
                 numbers[k] = number;
                 names[k] = name;

@@ -1,11 +1,16 @@
 // The data records.
+use crate::fields::ANYTHING;
+use crate::fields::ENTRY;
+use crate::fields::NAME;
+use crate::fields::NUMBER;
+use crate::fields::RELOCATION;
+use crate::fields::ZERO;
 use crate::fitting::bad;
 use crate::fitting::fit;
 use crate::fitting::said;
 use rules::line::CodeWord;
 use rules::line::Entry;
 use rules::line::FaultKind;
-use rules::line::Kind;
 use rules::line::LineAnswer;
 use rules::line::Relocation;
 use text::fields::field_start;
@@ -21,36 +26,8 @@ ghost use Rattle.rules.specs.Line.{wordOf, relocationOf, starred, codeLine, isO
 ghost use Rattle.text.specs.Scan.{InFile};
 ghost use Rattle.record.specs.Fitting.{endColumn, lineFields, FieldPassed};
 
-const NUMBER: Kind = Kind::Number {
-    low: 0,
-    high: 0o177777,
-    outside: FaultKind::BadNumber,
-};
-
-const ANY: Kind = Kind::Anything;
-
-const ZERO: Kind = Kind::Number {
-    low: 0,
-    high: 0,
-    outside: FaultKind::BadType,
-};
-
-const ENTRY_TYPE: Kind = Kind::Number {
-    low: 0,
-    high: 1,
-    outside: FaultKind::BadType,
-};
-
-const RELOCATION: Kind = Kind::Number {
-    low: 1,
-    high: 5,
-    outside: FaultKind::BadType,
-};
-
-const ENTRY: [Kind; 8] = [Kind::Name, NUMBER, ENTRY_TYPE, NUMBER, ANY, ANY, ANY, ANY];
-
-const STARRED: [Kind; 8] = [
-    ANY,
+const STARRED: [u8; 8] = [
+    ANYTHING,
     NUMBER,
     NUMBER,
     NUMBER,
@@ -59,6 +36,10 @@ const STARRED: [Kind; 8] = [
     RELOCATION,
     NUMBER,
 ];
+
+const RELOCATED: [u8; 4] = [NAME, NUMBER, ENTRY, NUMBER];
+
+const ABSOLUTE: [u8; 3] = [NAME, NUMBER, ENTRY];
 
 fn word(a: u16, b: u16, c: u16, d: u16) -> u64
     ensures { λ r. ⌜ r ≡ wordOf a b c d ⌝ }
@@ -80,7 +61,7 @@ fn starred_line(file: &[u8], at: usize, stop: usize) -> LineAnswer
     requires { ⌜ starred (lineFields at stop (now file)) ≡ true ⌝ }
     ensures { λ r. ⌜ r ≡ codeLine (endColumn at stop) (lineFields at stop (now (file .entry))) ⌝ }
 {
-    let r = fit(file, at, stop, STARRED, 8);
+    let r = fit(file, at, stop, &STARRED);
     let fault = r.fault;
     said(
         r.fits,
@@ -169,7 +150,7 @@ pub fn entry_line(file: &[u8], at: usize, stop: usize) -> LineAnswer
     ensures { λ r. ⌜ r ≡ entryLine (endColumn at stop) (lineFields at stop (now (file .entry))) ⌝ }
 {
     if is_one(third_field(file, at, stop)) {
-        let r = fit(file, at, stop, ENTRY, 4);
+        let r = fit(file, at, stop, &RELOCATED);
         let fault = r.fault;
         let entry = Entry {
             name: r.names[0],
@@ -179,7 +160,7 @@ pub fn entry_line(file: &[u8], at: usize, stop: usize) -> LineAnswer
         };
         return said(r.fits, fault, LineAnswer::Entered(entry));
     }
-    let r = fit(file, at, stop, ENTRY, 3);
+    let r = fit(file, at, stop, &ABSOLUTE);
     let fault = r.fault;
     let entry = Entry {
         name: r.names[0],

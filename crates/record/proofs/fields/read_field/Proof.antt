@@ -1,64 +1,94 @@
 -- `record::fields::read_field` meets its contract: by the kind.
 -- Assumes nothing.
 use Rattle.rules.specs.Line.{readField}
-use Rattle.record.specs.Fitting.{asHeld}
-use Rattle.record.proofs.KindLaws.{marker-yes, marker-no}
+use Rattle.record.specs.Fitting.{kindOf, asHeld}
+use Rattle.record.proofs.KindLaws.{MarkerNumber, marker-number}
 use borrow.Author.Needs.{needs}
 use Rattle.record.proofs.fields.read_field.Statement.{statement}
 use Rattle.record.proofs.fields.read_field.Tie as tie
 
-enum-known-kind : tie.Need-enum-known-kind
-enum-known-kind c = search needs
-
 number-field-requires : tie.Need-number-field-requires
 number-field-requires c κs = search needs
-
-enum-told : tie.Need-enum-told
-enum-told c = search needs
 
 name-field-requires : tie.Need-name-field-requires
 name-field-requires c κs = search needs
 
-enum-told-2 : tie.Need-enum-told-2
-enum-told-2 c = search needs
+number-field-requires-2 : tie.Need-number-field-requires-2
+number-field-requires-2 c κs = search needs
 
-enum-known-kind-2 : tie.Need-enum-known-kind-2
-enum-known-kind-2 c = search needs
+number-field-requires-3 : tie.Need-number-field-requires-3
+number-field-requires-3 c κs = search needs
 
-is-marker-requires : tie.Need-is-marker-requires
-is-marker-requires c κs = search needs
+number-field-requires-4 : tie.Need-number-field-requires-4
+number-field-requires-4 c κs = search needs
+
+number-field-requires-5 : tie.Need-number-field-requires-5
+number-field-requires-5 c κs = search needs
+
+cast-marker-field : tie.Need-cast-marker-field
+cast-marker-field c = search needs
+
+-- the kind is none of those that the code names
+marker : (c : tie.At-match-rest) → MarkerNumber (c .before .before .args .kind)
+marker c =
+    let r = c .match .rest in
+    marker-number _ (r .0 .0 .0 .0 .0 .0 .1) (r .0 .0 .0 .0 .0 .1) (r .0 .0 .0 .0 .1) (r .0 .0 .0 .1) (r .0 .0 .1) (r .0 .1) (r .1)
+
+sub-marker-field : tie.Need-sub-marker-field
+sub-marker-field c = marker c .least
+
+marker-field-requires : tie.Need-marker-field-requires
+marker-field-requires c κs = search needs
 
 returns : tie.Need-returns
-unfolding asHeld
-returns c = rw (c .before .before .before .kind2 .given .1) (marker-yes _ _ (c .before .is-marker .ensures) (c .if1 .taken))
+unfolding kindOf asHeld readField
+returns c = rw (c .match .keys1)
 
 returns-2 : tie.Need-returns-2
-returns-2 c = rw (c .before .before .kind .given .1) (c .number-field .ensures)
+unfolding kindOf
+returns-2 c = rw (c .before .match .keys2) (c .number-field .ensures)
 
 returns-3 : tie.Need-returns-3
-returns-3 c = rw (c .before .enum-told .given .1) (c .name-field .ensures)
+unfolding kindOf
+returns-3 c = rw (c .before .match .keys3) (c .name-field .ensures)
 
 returns-4 : tie.Need-returns-4
-unfolding asHeld readField
-returns-4 c = rw (c .enum-told2 .given .1)
+unfolding kindOf
+returns-4 c = rw (c .before .match .keys4) (c .number-field2 .ensures)
 
 returns-5 : tie.Need-returns-5
-unfolding asHeld
-returns-5 c = rw (c .before .before .before .kind2 .given .1) (marker-no _ _ (c .before .is-marker .ensures) (c .if1 .left))
+unfolding kindOf
+returns-5 c = rw (c .before .match .keys5) (c .number-field3 .ensures)
+
+returns-6 : tie.Need-returns-6
+unfolding kindOf
+returns-6 c = rw (c .before .match .keys6) (c .number-field4 .ensures)
+
+returns-7 : tie.Need-returns-7
+unfolding kindOf
+returns-7 c = rw (c .before .match .keys7) (c .number-field5 .ensures)
+
+returns-8 : tie.Need-returns-8
+returns-8 c = rw (marker (c .before) .is) (c .marker-field .ensures)
 
 pub read-field-spec : {M : Type 1} → statement M
 read-field-spec =
     tie.close
     (tie.spec
-    enum-known-kind
     number-field-requires
-    enum-told
     name-field-requires
-    enum-told-2
-    enum-known-kind-2
-    is-marker-requires
+    number-field-requires-2
+    number-field-requires-3
+    number-field-requires-4
+    number-field-requires-5
+    cast-marker-field
+    sub-marker-field
+    marker-field-requires
     returns
     returns-2
     returns-3
     returns-4
-    returns-5)
+    returns-5
+    returns-6
+    returns-7
+    returns-8)

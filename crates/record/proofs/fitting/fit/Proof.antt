@@ -1,21 +1,21 @@
 -- `record::fitting::fit` meets its contract: at each field what is left decides.
 -- Assumes nothing.
-use native.Mathlib.Omega.{arith}
-use mathlib.Core.Path.{refl}
-use Rattle.record.proofs.FitLaws.{Kept, kept-start, kept-few, kept-wrong, kept-step, kept-many, kept-end}
 use Prim.Native.Nat.{_-_}
+use mathlib.Core.Path.{refl}
+use lib.ListN.{length}
 use borrow.Author.Needs.{needs}
+use Rattle.record.proofs.FitLaws.{Kept, kept-start, kept-few, kept-wrong, kept-step, kept-many, kept-end}
 use Rattle.record.proofs.fitting.fit.Statement.{statement}
 use Rattle.record.proofs.fitting.fit.Tie as tie
 
 abbrev Inv-loop : tie.InvT-loop
-Inv-loop file at stop n kinds numbers₀ names₀ i₀ k₀ numbers names i k = Kept n kinds at stop file numbers names i k
+Inv-loop file at stop kinds numbers₀ names₀ i₀ k₀ numbers names i k = Kept kinds at stop file numbers names i k
 
 abbrev μ-loop : tie.MeasureT-loop
-μ-loop file at stop n kinds numbers₀ names₀ i₀ k₀ numbers names i k = n - k
+μ-loop file at stop kinds numbers₀ names₀ i₀ k₀ numbers names i k = length kinds - k
 
 loop-holds : tie.Need-loop-holds Inv-loop μ-loop
-loop-holds c = kept-start _ _ _ _ _ _ _ (c .before .pre .0) (c .before .pre .1) (search needs) refl refl
+loop-holds c = kept-start _ _ _ _ _ _ (c .before .before .pre .0) (c .before .before .pre .1) refl refl
 
 field-start-requires : tie.Need-field-start-requires Inv-loop μ-loop
 field-start-requires c κs = search needs
@@ -35,11 +35,8 @@ returns c = kept-few (c .before .before .before .before .loop .inv) (search need
 next-field-requires : tie.Need-next-field-requires Inv-loop μ-loop
 next-field-requires c κs = search needs
 
-mul-kind : tie.Need-mul-kind Inv-loop μ-loop
-mul-kind c = search needs
-
-array-copy-out-kind : tie.Need-array-copy-out-kind Inv-loop μ-loop
-array-copy-out-kind c = search needs
+shared-slice-read-read-field : tie.Need-shared-slice-read-read-field Inv-loop μ-loop
+shared-slice-read-read-field c = search needs
 
 read-field-requires : tie.Need-read-field-requires Inv-loop μ-loop
 read-field-requires c κs = search needs
@@ -69,7 +66,7 @@ loop-less : tie.Need-loop-less Inv-loop μ-loop
 loop-less c = search needs
 
 loop-again : tie.Need-loop-again Inv-loop μ-loop
-loop-again c = kept-step (c .before .before .before .before .before .before .before .before .before .loop .inv) (search needs) (c .before .before .before .before .before .before .before .field-start .ensures .is) (search needs) (c .before .before .before .before .before .next-field .ensures .bytes) _ (c .before .before .before .read-field .ensures) (c .before .number .given .1)
+loop-again c = kept-step (c .before .before .before .before .before .before .before .before .before .loop .inv) (search needs) (c .before .before .before .before .before .before .before .field-start .ensures .is) (search needs) (c .before .before .before .before .before .next-field .ensures .bytes) (c .before .before .before .read-field .ensures) (c .before .number .given .1)
 
 enum-known-fault : tie.Need-enum-known-fault Inv-loop μ-loop
 enum-known-fault c = search needs
@@ -84,7 +81,7 @@ misfit-requires-2 : tie.Need-misfit-requires-2 Inv-loop μ-loop
 misfit-requires-2 c κs = search needs
 
 returns-2 : tie.Need-returns-2 Inv-loop μ-loop
-returns-2 c = kept-wrong (c .before .before .before .before .before .before .before .before .before .before .loop .inv) (search needs) (c .before .before .before .before .before .before .before .before .field-start .ensures .is) (search needs) (c .before .before .before .before .before .before .next-field .ensures .bytes) _ (c .before .before .before .before .read-field .ensures) (c .before .before .fault .given .1) (c .misfit2 .ensures)
+returns-2 c = kept-wrong (c .before .before .before .before .before .before .before .before .before .before .loop .inv) (search needs) (c .before .before .before .before .before .before .before .before .field-start .ensures .is) (search needs) (c .before .before .before .before .before .before .next-field .ensures .bytes) (c .before .before .before .before .read-field .ensures) (c .before .before .fault .given .1) (c .misfit2 .ensures)
 
 field-start-requires-2 : tie.Need-field-start-requires-2 Inv-loop μ-loop
 field-start-requires-2 c κs = search needs
@@ -117,8 +114,7 @@ fit-spec =
     misfit-requires
     returns
     next-field-requires
-    mul-kind
-    array-copy-out-kind
+    shared-slice-read-read-field
     read-field-requires
     enum-known-number
     mul-numbers

@@ -6,6 +6,9 @@ use borrow.Author.Needs.{needs}
 use Rattle.record.proofs.records.starred_line.Statement.{statement}
 use Rattle.record.proofs.records.starred_line.Tie as tie
 
+slice-aggregate-fit : tie.Need-slice-aggregate-fit
+slice-aggregate-fit c = search needs
+
 fit-requires : tie.Need-fit-requires
 fit-requires c κs = search needs
 
@@ -37,12 +40,13 @@ said-requires : tie.Need-said-requires
 said-requires c κs = search needs
 
 returns : tie.Need-returns
-returns c = c .said .ensures ∙ starred-says _ _ _ _ (c .before .before .before .before .before .before .before .before .before .before .before .before .pre .1) (c .before .before .before .before .before .before .before .before .before .before .fit .ensures) (c .before .before .before .before .word .ensures) (c .before .relocation-of .ensures)
+returns c = c .said .ensures ∙ starred-says _ _ _ _ (c .before .before .before .before .before .before .before .before .before .before .before .before .before .pre .1) (c .before .before .before .before .before .before .before .before .before .before .fit .ensures) (c .before .before .before .before .word .ensures) (c .before .relocation-of .ensures)
 
 pub starred-line-spec : {M : Type 1} → statement M
 starred-line-spec =
     tie.close
     (tie.spec
+    slice-aggregate-fit
     fit-requires
     element-copy-out-word
     element-copy-out-word-2
