@@ -5,7 +5,7 @@ use native.Mathlib.Omega.{arith}
 use mathlib.Core.Bool.{Bool, true, false}
 use mathlib.Core.List.{List, [], _∷_, _++_, map, append-assoc, append-nil}
 use mathlib.Core.Path.{_≡_, refl, sym, ap, ap₂, _∙_}
-use lib.ListN.{length, drop, set, length-set, drop-of-length-le}
+use lib.ListN.{length, drop, getD, set, length-set, length-map, drop-of-length-le}
 use lib.Seq.{drop-cons, getD-set-same, getD-set-other}
 use native.Mathlib.Numerals.{add-one}
 use Rattle.rules.specs.Text.{Field, fieldsFrom, fieldsOf}
@@ -14,6 +14,7 @@ use Rattle.rules.specs.declared.line.Fault.{Fault}
 use Rattle.rules.specs.declared.line.FaultKind.{FaultKind}
 use Rattle.rules.specs.declared.line.FaultKind.the-variants.{FieldCount}
 use Rattle.rules.specs.declared.line.Kind.{Kind}
+use Rattle.rules.specs.declared.line.Kind.the-variants.{Anything}
 use Rattle.text.specs.Scan.{part, InFile}
 use Rattle.text.specs.FieldBounds.{fieldStart, fieldStop}
 use Rattle.text.proofs.FieldLaws.{FieldFound, field, field-found, no-field, start-least, start-most}
@@ -118,18 +119,24 @@ module _ {ks : List Kind} {at stop : ℕ} {l done : List ℕ} {i : ℕ} (s : ℕ
 
 -- ---- the loop's numbers and names
 
-module _ (kinds numbers names : List ℕ) (k a b : ℕ) where
+module _ (ks : List Kind) (numbers names : List ℕ) (k a b : ℕ) where
   -- what stands at k does not count among the first values
-  values-kept : (m : ℕ) → m ≤ k → valuesOf m kinds (set numbers k a) (set names k b) ≡ valuesOf m kinds numbers names
+  values-kept : (m : ℕ) → m ≤ k → valuesOf m ks (set numbers k a) (set names k b) ≡ valuesOf m ks numbers names
   unfolding valuesOf
   values-kept zero h = refl
   values-kept (suc m) h =
       rw (values-kept m (omega arith), getD-set-other numbers k m a 0 (λ e. omega arith), getD-set-other names k m b 0 (λ e. omega arith))
 
   values-more : k < length numbers → k < length names →
-      valuesOf (suc k) kinds (set numbers k a) (set names k b) ≡ valuesOf k kinds numbers names ++ (valueAs (kindOf (nth kinds k)) a b ∷ [])
+      valuesOf (suc k) ks (set numbers k a) (set names k b) ≡ valuesOf k ks numbers names ++ (valueAs (getD ks k Anything) a b ∷ [])
   unfolding valuesOf
   values-more h g = rw (values-kept k (omega arith), getD-set-same numbers k a 0 h, getD-set-same names k b 0 g)
+
+-- the kind of a letter that is there
+kind-at : (kinds : List ℕ) (k : ℕ) → k < length kinds → getD (map kindOf kinds) k Anything ≡ kindOf (nth kinds k)
+kind-at [] k h = absurd (omega arith)
+kind-at (x ∷ xs) zero h = refl
+kind-at (x ∷ xs) (suc k) h = kind-at xs k (omega arith)
 
 -- k fields are read
 pub record Kept (kinds : List ℕ) (at stop : ℕ) (l numbers names : List ℕ) (i k : ℕ) : Type 0 where
@@ -137,7 +144,7 @@ pub record Kept (kinds : List ℕ) (at stop : ℕ) (l numbers names : List ℕ) 
   pub few : length kinds ≤ 8
   pub numbers-size : length numbers ≡ 8
   pub names-size : length names ≡ 8
-  pub fitting : Fitting (map kindOf kinds) at stop l (valuesOf k kinds numbers names) (map kindOf (drop k kinds)) i
+  pub fitting : Fitting (map kindOf kinds) at stop l (valuesOf k (map kindOf kinds) numbers names) (map kindOf (drop k kinds)) i
 
 pub kept-start : (kinds : List ℕ) (at stop : ℕ) (l numbers names : List ℕ) → InFile at stop l → length kinds ≤ 8 →
     length numbers ≡ 8 → length names ≡ 8 → Kept kinds at stop l numbers names at 0
@@ -151,27 +158,27 @@ kept-start kinds at stop l numbers names h few e g =
       fitting = fitting-start (map kindOf kinds) at stop l h;
     }
 
-as-misfit : (kinds : List ℕ) {j : FaultKind} {c : ℕ} {r : FieldsRead} → Misfit j c r → asFitted kinds r ≡ misfit (fault j c)
+as-misfit : (ks : List Kind) {j : FaultKind} {c : ℕ} {r : FieldsRead} → Misfit j c r → asFitted ks r ≡ misfit (fault j c)
 unfolding asFitted
-as-misfit kinds m = rw (m .fits-not, m .fault-is)
+as-misfit ks m = rw (m .fits-not, m .fault-is)
 
 module _ {kinds : List ℕ} {at stop : ℕ} {l numbers names : List ℕ} {i k : ℕ} (q : Kept kinds at stop l numbers names i k) where
   abbrev Fits : FieldsRead → Type 0
-  Fits r = asFitted kinds r ≡ fitLine kinds at stop l
+  Fits r = asFitted (map kindOf kinds) r ≡ fitLine (map kindOf kinds) at stop l
 
   module _ (h : k < length kinds) {s : ℕ} (e : s ≡ fieldStart i stop l) where
-    next : Fitting (map kindOf kinds) at stop l (valuesOf k kinds numbers names) (kindOf (nth kinds k) ∷ map kindOf (drop (suc k) kinds)) i
+    next : Fitting (map kindOf kinds) at stop l (valuesOf k (map kindOf kinds) numbers names) (kindOf (nth kinds k) ∷ map kindOf (drop (suc k) kinds)) i
     next = rw (drop-cons kinds k 0 h) at (q .fitting)
 
     pub kept-few : s ≡ stop → {r : FieldsRead} → Misfit FieldCount (stop - at + 1) r → Fits r
     unfolding fitLine
-    kept-few g m = as-misfit kinds m ∙ fitting-few s e next g
+    kept-few g m = as-misfit (map kindOf kinds) m ∙ fitting-few s e next g
 
     module _ (g : s < stop) {t : List ℕ} (b : t ≡ part (fieldStart s stop l) (fieldStop s stop l) l)
         {f : FieldRead} (a : asHeld (kindOf (nth kinds k)) f ≡ readField (kindOf (nth kinds k)) t) where
       pub kept-wrong : {j : FaultKind} → f ≡ Wrong j → {r : FieldsRead} → Misfit j (s - at + 1) r → Fits r
       unfolding asHeld fitLine
-      kept-wrong w m = as-misfit kinds m ∙ fitting-wrong s e next g t b (rw w at a)
+      kept-wrong w m = as-misfit (map kindOf kinds) m ∙ fitting-wrong s e next g t b (rw w at a)
 
       pub kept-step : {x y : ℕ} → f ≡ Value x y → Kept kinds at stop l (set numbers k x) (set names k y) (s + length t) (k + 1)
       unfolding asHeld
@@ -181,18 +188,18 @@ module _ {kinds : List ℕ} {at stop : ℕ} {l numbers names : List ℕ} {i k : 
             few = q .few;
             numbers-size = length-set numbers k x ∙ q .numbers-size;
             names-size = length-set names k y ∙ q .names-size;
-            fitting = rw (add-one, values-more kinds numbers names k x y (omega (arith, q .numbers-size, q .few)) (omega (arith, q .names-size, q .few))) (fitting-step s e next g t b (rw v at a));
+            fitting = rw (add-one, values-more (map kindOf kinds) numbers names k x y (omega (arith, q .numbers-size, q .few)) (omega (arith, q .names-size, q .few)), kind-at kinds k h) (fitting-step s e next g t b (rw v at a));
           }
 
   module _ (h : length kinds ≤ k) {s : ℕ} (e : s ≡ fieldStart i stop l) where
-    last : Fitting (map kindOf kinds) at stop l (valuesOf (length kinds) kinds numbers names) [] i
+    last : Fitting (map kindOf kinds) at stop l (valuesOf (length (map kindOf kinds)) (map kindOf kinds) numbers names) [] i
     last =
-        let m : k ≡ length kinds = omega (arith, q .most) in
+        let m : k ≡ length (map kindOf kinds) = omega (arith, q .most, length-map kinds kindOf) in
         rw (drop-of-length-le kinds h, m) at (q .fitting)
 
     pub kept-many : s < stop → {r : FieldsRead} → Misfit FieldCount (s - at + 1) r → Fits r
     unfolding fitLine
-    kept-many g m = as-misfit kinds m ∙ fitting-many s e last g
+    kept-many g m = as-misfit (map kindOf kinds) m ∙ fitting-many s e last g
 
     pub kept-end : stop ≤ s → (j : Fault) → Fits (record { fits = true; fault = j; numbers = numbers; names = names })
     unfolding asFitted fitLine

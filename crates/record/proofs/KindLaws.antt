@@ -1,6 +1,6 @@
 -- A field against its kind: what the readers of numbers, names and markers answer, as the rules have it.
 -- Assumes nothing.
-use Prim.Native.Nat.{ℕ, suc, _-_, _≤_, _<_}
+use Prim.Native.Nat.{ℕ, _%_, _≤_, _<_}
 use native.Mathlib.Omega.{arith}
 use mathlib.Core.Bool.{Bool, true, false}
 use mathlib.Core.List.{List}
@@ -92,20 +92,9 @@ module _ (f : List ℕ) {r : AnyNumber} (e : r ≡ asNumber (numberOf f)) where
   unfolding isOne
   one-not g = rw (number-out (numberOf f) (sym e ∙ g))
 
--- ---- the numbers of the kinds
+-- ---- the letters of the kinds
 
--- a number past the named ones is a marker's
-pub record MarkerNumber (k : ℕ) : Type 0 where
-  pub least : 7 ≤ k
-  pub is : kindOf k ≡ Marker (k - 7)
-
-above : {n k : ℕ} → (k ≡ n → ⊥) → n ≤ k → suc n ≤ k
-above e h = omega arith
-
-pub marker-number : (k : ℕ) → (k ≡ 0 → ⊥) → (k ≡ 1 → ⊥) → (k ≡ 2 → ⊥) → (k ≡ 3 → ⊥) → (k ≡ 4 → ⊥) → (k ≡ 5 → ⊥) → (k ≡ 6 → ⊥) → MarkerNumber k
+pub marker-letter : (k : ℕ) → (k ≡ 46 → ⊥) → (k ≡ 110 → ⊥) → (k ≡ 120 → ⊥) → (k ≡ 48 → ⊥) → (k ≡ 114 → ⊥) → (k ≡ 116 → ⊥) → (k ≡ 115 → ⊥) → kindOf k ≡ Marker (k % 65)
 unfolding kindOf
-marker-number k n0 n1 n2 n3 n4 n5 n6 =
-    record {
-      least = above n6 (above n5 (above n4 (above n3 (above n2 (above n1 (above n0 (omega arith)))))));
-      is = simp (ne-eqb k 0 n0, ne-eqb k 1 n1, ne-eqb k 2 n2, ne-eqb k 3 n3, ne-eqb k 4 n4, ne-eqb k 5 n5, ne-eqb k 6 n6);
-    }
+marker-letter k a b c d e f g =
+    simp (ne-eqb k 46 a, ne-eqb k 110 b, ne-eqb k 120 c, ne-eqb k 48 d, ne-eqb k 114 e, ne-eqb k 116 f, ne-eqb k 115 g)

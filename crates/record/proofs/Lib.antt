@@ -1,5 +1,4 @@
 -- Laws that the proofs here and those of the crates above cite.
 pub mod KindLaws
 pub mod FitLaws
-pub mod PeekLaws
-pub mod RecordLaws
+pub mod ShapeLaws

@@ -1,9 +1,9 @@
 -- What is read of fields, as the rules have it. The code keeps numbers and names apart, by their types; the rules keep one list of values.
-use Prim.Native.Nat.{ℕ, zero, suc, _+_, _-_, _≤_}
+use Prim.Native.Nat.{ℕ, zero, suc, _+_, _-_, _%_, _≤_}
 use mathlib.Core.Bool.{false, cond}
-use mathlib.Core.List.{List, [], _∷_, _++_, map}
+use mathlib.Core.List.{List, [], _∷_, _++_}
 use mathlib.Core.Path.{_≡_}
-use lib.ListN.{length}
+use lib.ListN.{length, getD}
 use Rattle.rules.specs.Text.{Field, fieldsFrom, fieldsOf}
 use lib.Dec.{eqb}
 use Rattle.rules.specs.Line.{nth, number, Held, value, wrong, Fitted, fits, misfit, fault, fit, textAt}
@@ -23,16 +23,16 @@ valueAs Name number name = name
 valueAs Anything number name = 0
 valueAs (Marker c) number name = 0
 
--- the kinds, by the numbers that the code gives them
+-- the kinds, by the letters that the code gives them; a capital letter is the marker of the block that many letters after A
 unfoldable pub kindOf : ℕ → Kind
 kindOf k =
-    cond (eqb k 0) Anything
-    (cond (eqb k 1) number
-    (cond (eqb k 2) Name
-    (cond (eqb k 3) (Number 0 0 BadType)
-    (cond (eqb k 4) (Number 1 5 BadType)
-    (cond (eqb k 5) (Number 0 1 BadType)
-    (cond (eqb k 6) (Number 0 7 BadNumber) (Marker (k - 7))))))))
+    cond (eqb k 46) Anything
+    (cond (eqb k 110) number
+    (cond (eqb k 120) Name
+    (cond (eqb k 48) (Number 0 0 BadType)
+    (cond (eqb k 114) (Number 1 5 BadType)
+    (cond (eqb k 116) (Number 0 1 BadType)
+    (cond (eqb k 115) (Number 0 7 BadNumber) (Marker (k % 65))))))))
 
 -- the answer of `read_field`
 unfoldable pub asHeld : Kind → FieldRead → Held
@@ -40,13 +40,13 @@ asHeld k (Value number name) = value (valueAs k number name)
 asHeld k (Wrong j) = wrong j
 
 -- the values of the first n fields of a line
-unfoldable pub valuesOf : ℕ → List ℕ → List ℕ → List ℕ → List ℕ
+unfoldable pub valuesOf : ℕ → List Kind → List ℕ → List ℕ → List ℕ
 valuesOf zero ks numbers names = []
 valuesOf (suc k) ks numbers names =
-    valuesOf k ks numbers names ++ (valueAs (kindOf (nth ks k)) (nth numbers k) (nth names k) ∷ [])
+    valuesOf k ks numbers names ++ (valueAs (getD ks k Anything) (nth numbers k) (nth names k) ∷ [])
 
 -- the answer of `fit`
-unfoldable pub asFitted : List ℕ → FieldsRead → Fitted
+unfoldable pub asFitted : List Kind → FieldsRead → Fitted
 asFitted ks r = cond (r .fits) (fits (valuesOf (length ks) ks (r .numbers) (r .names))) (misfit (r .fault))
 
 pub record Misfit (kind : FaultKind) (column : ℕ) (r : FieldsRead) : Type 0 where
@@ -61,8 +61,8 @@ abbrev pub endColumn : ℕ → ℕ → ℕ
 endColumn at stop = stop - at + 1
 
 -- the same fields against kinds
-unfoldable pub fitLine : List ℕ → ℕ → ℕ → List ℕ → Fitted
-fitLine ks at stop file = fit (endColumn at stop) (map kindOf ks) (lineFields at stop file)
+unfoldable pub fitLine : List Kind → ℕ → ℕ → List ℕ → Fitted
+fitLine ks at stop file = fit (endColumn at stop) ks (lineFields at stop file)
 
 -- r stands behind the first field of the text from i to stop, or at stop where it has none
 pub record FieldPassed (i stop : ℕ) (file : List ℕ) (r : ℕ) : Type 0 where

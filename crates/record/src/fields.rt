@@ -10,27 +10,6 @@ ghost use Rattle.rules.specs.declared.line.Kind.the-variants.{Number as NumberK
 ghost use Rattle.rules.specs.Line.{readField};
 ghost use Rattle.record.specs.Fitting.{kindOf, asHeld};
 
-// The kinds of fields, by number.
-pub const ANYTHING: u8 = 0;
-
-pub const NUMBER: u8 = 1;
-
-pub const NAME: u8 = 2;
-
-// The number before a relocation's type, and that type.
-pub const ZERO: u8 = 3;
-
-pub const RELOCATION: u8 = 4;
-
-// An entry's type.
-pub const ENTRY: u8 = 5;
-
-// The number of sub-records of a parameter record.
-pub const SIZE: u8 = 6;
-
-// The marker of the block with code c is this plus c.
-pub const MARKER: u8 = 7;
-
 // What a field holds: a number, a name, or neither. What it does not hold is 0.
 pub enum FieldRead {
     Value { number: u16, name: u64 },
@@ -72,17 +51,19 @@ fn marker_field(field: &[u8], code: u16) -> FieldRead
     FieldRead::Wrong(FaultKind::BadMarker)
 }
 
+// A field's kind is a letter: . any text, n a number, x a name, 0 the number before a relocation's type, r that type,
+// t an entry's type, s a number of sub-records, A B C .. the markers of the blocks 0 1 2 ..
 pub fn read_field(field: &[u8], kind: u8) -> FieldRead
     ensures { λ r. ⌜ asHeld (kindOf kind) r ≡ readField (kindOf kind) (now (field .entry)) ⌝ }
 {
     match kind {
-        ANYTHING => FieldRead::Value { number: 0, name: 0 },
-        NUMBER => number_field(field, 0, 0o177777, FaultKind::BadNumber),
-        NAME => name_field(field),
-        ZERO => number_field(field, 0, 0, FaultKind::BadType),
-        RELOCATION => number_field(field, 1, 5, FaultKind::BadType),
-        ENTRY => number_field(field, 0, 1, FaultKind::BadType),
-        SIZE => number_field(field, 0, 7, FaultKind::BadNumber),
-        _ => marker_field(field, kind as u16 - MARKER as u16),
+        b'.' => FieldRead::Value { number: 0, name: 0 },
+        b'n' => number_field(field, 0, 0o177777, FaultKind::BadNumber),
+        b'x' => name_field(field),
+        b'0' => number_field(field, 0, 0, FaultKind::BadType),
+        b'r' => number_field(field, 1, 5, FaultKind::BadType),
+        b't' => number_field(field, 0, 1, FaultKind::BadType),
+        b's' => number_field(field, 0, 7, FaultKind::BadNumber),
+        _ => marker_field(field, kind as u16 % 65),
     }
 }

@@ -7,13 +7,14 @@ use rules::line::LineAnswer;
 use text::fields::field_start;
 use text::fields::next_field;
 ghost use mathlib.Core.Bool.{cond};
+ghost use mathlib.Core.List.{map};
 ghost use mathlib.Core.Path.{_≡_};
 ghost use Prim.Native.Nat.{_≤_};
 ghost use lib.ListN.{length};
 ghost use Rattle.rules.specs.declared.line.LineAnswer.the-variants.{Bad};
 ghost use Rattle.rules.specs.Line.{fault};
 ghost use Rattle.text.specs.Scan.{InFile};
-ghost use Rattle.record.specs.Fitting.{asFitted, fitLine, Misfit};
+ghost use Rattle.record.specs.Fitting.{kindOf, asFitted, fitLine, Misfit};
 
 // What the fields hold, each at its place, or the leftmost fault among them.
 pub struct FieldsRead {
@@ -38,7 +39,7 @@ fn misfit(kind: FaultKind, column: usize) -> FieldsRead
 pub fn fit(file: &[u8], at: usize, stop: usize, kinds: &[u8]) -> FieldsRead
     requires { ⌜ InFile at stop (now file) ⌝ }
     requires { ⌜ length (now kinds) ≤ 8 ⌝ }
-    ensures { λ r. ⌜ asFitted (now (kinds .entry)) r ≡ fitLine (now (kinds .entry)) at stop (now (file .entry)) ⌝ }
+    ensures { λ r. ⌜ asFitted (map kindOf (now (kinds .entry))) r ≡ fitLine (map kindOf (now (kinds .entry))) at stop (now (file .entry)) ⌝ }
 {
     let mut numbers = [0u16; 8];
     let mut names = [0u64; 8];

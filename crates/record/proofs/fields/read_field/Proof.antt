@@ -2,7 +2,7 @@
 -- Assumes nothing.
 use Rattle.rules.specs.Line.{readField}
 use Rattle.record.specs.Fitting.{kindOf, asHeld}
-use Rattle.record.proofs.KindLaws.{MarkerNumber, marker-number}
+use Rattle.record.proofs.KindLaws.{marker-letter}
 use borrow.Author.Needs.{needs}
 use Rattle.record.proofs.fields.read_field.Statement.{statement}
 use Rattle.record.proofs.fields.read_field.Tie as tie
@@ -24,18 +24,6 @@ number-field-requires-4 c κs = search needs
 
 number-field-requires-5 : tie.Need-number-field-requires-5
 number-field-requires-5 c κs = search needs
-
-cast-marker-field : tie.Need-cast-marker-field
-cast-marker-field c = search needs
-
--- the kind is none of those that the code names
-marker : (c : tie.At-match-rest) → MarkerNumber (c .before .before .args .kind)
-marker c =
-    let r = c .match .rest in
-    marker-number _ (r .0 .0 .0 .0 .0 .0 .1) (r .0 .0 .0 .0 .0 .1) (r .0 .0 .0 .0 .1) (r .0 .0 .0 .1) (r .0 .0 .1) (r .0 .1) (r .1)
-
-sub-marker-field : tie.Need-sub-marker-field
-sub-marker-field c = marker c .least
 
 marker-field-requires : tie.Need-marker-field-requires
 marker-field-requires c κs = search needs
@@ -69,7 +57,9 @@ unfolding kindOf
 returns-7 c = rw (c .before .match .keys7) (c .number-field5 .ensures)
 
 returns-8 : tie.Need-returns-8
-returns-8 c = rw (marker (c .before) .is) (c .marker-field .ensures)
+returns-8 c = let r = c .before .match .rest in
+    rw (marker-letter _ (r .0 .0 .0 .0 .0 .0 .1) (r .0 .0 .0 .0 .0 .1) (r .0 .0 .0 .0 .1) (r .0 .0 .0 .1) (r .0 .0 .1) (r .0 .1) (r .1))
+    (c .marker-field .ensures)
 
 pub read-field-spec : {M : Type 1} → statement M
 read-field-spec =
@@ -81,8 +71,6 @@ read-field-spec =
     number-field-requires-3
     number-field-requires-4
     number-field-requires-5
-    cast-marker-field
-    sub-marker-field
     marker-field-requires
     returns
     returns-2

@@ -1,8 +1,8 @@
--- `record::records::relocation_of` meets its contract: by the type.
+-- `record::shapes::relocation_of` meets its contract: by the type.
 -- Assumes nothing.
 use borrow.Author.Tests.{eq-eqb, ne-eqb}
-use Rattle.record.proofs.records.relocation_of.Statement.{statement}
-use Rattle.record.proofs.records.relocation_of.Tie as tie
+use Rattle.record.proofs.shapes.relocation_of.Statement.{statement}
+use Rattle.record.proofs.shapes.relocation_of.Tie as tie
 
 returns : tie.Need-returns
 returns c = simp (eq-eqb _ _ (c .if1 .taken))
