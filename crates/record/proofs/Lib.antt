@@ -2,3 +2,7 @@
 pub mod KindLaws
 pub mod FitLaws
 pub mod ShapeLaws
+pub mod HeaderLaws
+pub mod PeekLaws
+pub mod RecordLaws
+pub mod AnswerLaws

@@ -53,12 +53,12 @@ last-shape k h g a b c d e f i j l = meet g (above (above (above (above (above (
 -- ---- the code's table
 
 -- f at each number below n
-tabulate : {A : Type 0} → (ℕ → A) → ℕ → List A
+unfoldable pub tabulate : {A : Type 0} → (ℕ → A) → ℕ → List A
 tabulate f zero = []
 tabulate f (suc n) = f n ∷ tabulate f n
 
 -- tables that are equal, at each place
-at-place : {A : Type 0} (f g : ℕ → A) (n : ℕ) → tabulate f n ≡ tabulate g n → (k : ℕ) → k < n → f k ≡ g k
+pub at-place : {A : Type 0} (f g : ℕ → A) (n : ℕ) → tabulate f n ≡ tabulate g n → (k : ℕ) → k < n → f k ≡ g k
 unfolding tabulate
 at-place {A} f g zero e k h = absurd (omega arith)
 at-place {A} f g (suc n) e k h = go (eqb k n) refl (λ l. at-place f g n (cc) k l)

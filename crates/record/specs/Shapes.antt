@@ -28,6 +28,10 @@ unfoldable pub headerShape : Option Row → Shape
 headerShape none = shape [] (λ v. Head EndBlock)
 headerShape (some r) = shape (Anything ∷ r .fields ++ (Marker (r .code) ∷ [])) (λ v. Head (r .says v))
 
+unfoldable pub known : Option Row → Bool
+known none = false
+known (some r) = true
+
 -- the records', from 12 on
 unfoldable pub recordShapes : List Shape
 recordShapes =
