@@ -1,1 +1,4 @@
 pub mod TablesLaws
+pub mod FitLaws
+pub mod CellLaws
+pub mod RowLaws

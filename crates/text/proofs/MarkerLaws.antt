@@ -138,7 +138,7 @@ marked k h =
       is = same-means _ _ (and-right (leb e 76) _ u);
     }
 
--- past the last code there is no marker
+-- past the last code there is no block, and no marker
 no-row : (rs : List Row) (c : ℕ) → all (λ r. leb (r .code) 11) rs ≡ true → 11 < c → rowIn rs c ≡ none
 unfolding rowIn all
 no-row [] c h g = refl
@@ -146,6 +146,10 @@ no-row (r ∷ rs) c h g =
     let k = leb-true (r .code) 11 (and-left (leb (r .code) 11) _ h) in
     rw (ne-eqb (r .code) c (λ e. omega arith)) (no-row rs c (and-right (leb (r .code) 11) _ h) g)
 
+pub no-block : (c : ℕ) → 11 < c → rowOf c ≡ none
+unfolding rowOf headers all
+no-block c h = no-row headers c refl h
+
 pub no-marker : (c : ℕ) → 11 < c → markerOf c ≡ []
-unfolding rowOf markerIn headers all
-no-marker c h = ap markerIn (no-row headers c refl h)
+unfolding markerIn
+no-marker c h = ap markerIn (no-block c h)

@@ -1,0 +1,7 @@
+pub mod FillLaws
+pub mod LimitLaws
+pub mod GrowLaws
+pub mod DateLaws
+pub mod LoopLaws
+pub mod ItemLaws
+pub mod SoundTables

@@ -1,0 +1,183 @@
+-- How much a file can add to the tables: a line that adds something has a byte and an end of its own, so a part costs two
+-- bytes; a module's row costs the END header and the title behind it, and a section's row the LSB and the LEB header.
+use Prim.Native.Nat.{ℕ, _+_, _-_, _*_, _≤_}
+use native.Mathlib.Omega.{arith}
+use mathlib.Core.Bool.{Bool, true, false, cond, not, _&&_, _||_, or-true}
+use mathlib.Core.List.{List, [], _∷_}
+use mathlib.Core.Path.{_≡_, refl}
+use lib.ListN.{length}
+use lib.Dec.{eqb, leb, ltb}
+use Rattle.rules.specs.Text.{LF, CR, linesOf, addToLines, startsLF, widenLine, fieldsOf, fieldsFrom, legalFront}
+use Rattle.rules.specs.Line.{lineAnswer, testBytes, lineOf}
+use Rattle.rules.specs.Reading.{mode, atStart, want, wantRecords, recordDone, wantSubs, titleHeader, enterModule, leaveModule, enterSection, leaveSection, countEntry, countExternal, titleStep, libraryStep, libraryEndStep, headerStep, closingStep, entryStep, externalStep, parameterStep, subStep, stepOf, stepAt}
+use Rattle.rules.specs.declared.line.Header.{Header}
+use Rattle.rules.specs.declared.line.Header.the-variants.{CodeBlock, EndBlock, TitleBlock, EntryBlock, ExternalBlock, LibraryStart, LibraryEnd, DataBlock, InitBlock, ParameterBlock}
+use Rattle.rules.specs.declared.line.LineAnswer.{LineAnswer}
+use Rattle.rules.specs.declared.line.Wanted.{Wanted}
+use Rattle.rules.specs.declared.line.Wanted.the-variants.{AnyHeader, OpeningTitle, ClosingTitle, CodeRecord, EntryRecord, ExternalRecord, DataRecord, InitRecord, ParameterRecord, SubRecord}
+use Rattle.rules.specs.declared.reading.OpenBlock.{OpenBlock}
+use Rattle.rules.specs.declared.reading.OpenModule.{OpenModule}
+use Rattle.rules.specs.declared.reading.OpenSection.{OpenSection}
+use Rattle.rules.specs.declared.reading.Mode.{Mode}
+use Rattle.rules.specs.declared.reading.Step.{Step}
+use Rattle.rules.specs.declared.reading.Step.the-variants.{Stop, Next, Add, CloseModule, CloseSection}
+use Rattle.rules.proofs.LineLaws.{Told, bad, blank, head, opening, closing, coded, entered, mentioned, dataRead, initRead, parameter, sub, line-told}
+use Rattle.reading.specs.TwoTables.{Tables}
+
+-- ---- the bytes of lines, with an end for each
+
+unfoldable pub weight : List (List ℕ) → ℕ
+weight [] = 0
+weight (l ∷ ls) = length l + 1 + weight ls
+
+widen-weight : (b : ℕ) (ls : List (List ℕ)) (k : ℕ) → weight ls ≤ k + 1 → weight (widenLine b ls) ≤ k + 2
+unfolding weight widenLine
+widen-weight b [] k h = omega arith
+widen-weight b (l ∷ ls) k h = omega arith
+
+add-weight : (b : ℕ) (lf : Bool) (ls : List (List ℕ)) (k : ℕ) → weight ls ≤ k + 1 → weight (addToLines b lf ls) ≤ k + 2
+unfolding addToLines weight
+add-weight b lf ls k h =
+    elim (eqb b LF) as (λ t. weight (cond t ([] ∷ ls) (cond (eqb b CR && lf) ls (widenLine b ls))) ≤ k + 2) [
+      | true ↦ omega arith
+      | false ↦
+          elim (eqb b CR && lf) as (λ t. weight (cond t ls (widenLine b ls)) ≤ k + 2)
+          [ true ↦ omega arith | false ↦ widen-weight b ls k h ]
+    ]
+
+-- only the last line may lack its end
+pub lines-weight : (text : List ℕ) → weight (linesOf text) ≤ length text + 1
+unfolding linesOf weight
+lines-weight [] = omega arith
+lines-weight (b ∷ rest) = omega (arith, add-weight b (startsLF rest) (linesOf rest) (length rest) (lines-weight rest))
+
+length-weight : (ls : List (List ℕ)) → length ls ≤ weight ls
+unfolding weight
+length-weight [] = omega arith
+length-weight (l ∷ ls) = omega (arith, length-weight ls)
+
+pub lines-count : (text : List ℕ) → length (linesOf text) ≤ length text + 1
+lines-count text = omega (arith, lines-weight text, length-weight (linesOf text))
+
+-- ---- what the reading has paid for in advance
+
+-- an END header before its title, an LSB header before its LEB
+unfoldable pub awaited : Wanted → ℕ
+awaited AnyHeader = 0
+awaited OpeningTitle = 0
+awaited ClosingTitle = 2
+awaited CodeRecord = 0
+awaited EntryRecord = 0
+awaited ExternalRecord = 0
+awaited DataRecord = 0
+awaited InitRecord = 0
+awaited ParameterRecord = 0
+awaited SubRecord = 0
+
+unfoldable pub pending : Mode → ℕ
+pending m = awaited (m .wanted) + cond (m .section .inside) 2 0
+
+-- what is paid for after a step, with what it adds
+unfoldable pub spent : Step → ℕ
+spent (Stop k c) = 0
+spent (Next m) = pending m
+spent (Add m p) = 2 + pending m
+spent (CloseModule m line) = 4 + pending m
+spent (CloseSection m line) = 4 + pending m
+
+-- what the tables hold
+unfoldable pub used : Tables → ℕ
+used t = 2 * length (t .parts) + 4 * length (t .rows)
+
+choose-step : (t : Bool) (x y : Step) (k : ℕ) → spent x ≤ k → spent y ≤ k → spent (cond t x y) ≤ k
+choose-step true x y k p q = p
+choose-step false x y k p q = q
+
+choose-mode : (t : Bool) (x y : Mode) (k : ℕ) → pending x ≤ k → pending y ≤ k → pending (cond t x y) ≤ k
+choose-mode true x y k p q = p
+choose-mode false x y k p q = q
+
+-- records of a block follow, or a header
+none-awaited : (t : Bool) (w : Wanted) → awaited w ≡ 0 → awaited (cond t AnyHeader w) ≡ 0
+unfolding awaited
+none-awaited true w e = refl
+none-awaited false w e = e
+
+-- a step that stops unless a test is passed
+unless : (t : Bool) (x : Step) (j c k : ℕ) → spent x ≤ k → spent (cond t x (Stop j c)) ≤ k
+unfolding spent
+unless t x j c k h = choose-step t x (Stop j c) k h (omega arith)
+
+module _ (n : ℕ) (b : OpenBlock) (o : OpenModule) (s : OpenSection) where
+  -- a header
+  records-spend :
+      (w : Wanted) (count : ℕ) → awaited w ≡ 0
+      → spent (cond (o .inside) (Next (wantRecords w 0 count (mode AnyHeader b o s))) (Stop 7 0))
+      ≤ pending (mode AnyHeader b o s) + 2
+  unfolding spent pending wantRecords
+  records-spend w count e = unless (o .inside) _ 7 0 _ (omega (arith, none-awaited (eqb count 0) w e))
+
+  library-end-spends : spent (libraryEndStep (mode AnyHeader b o s)) ≤ pending (mode AnyHeader b o s) + 2
+  unfolding spent pending awaited libraryEndStep leaveSection
+  library-end-spends =
+      let close = CloseSection (leaveSection (mode AnyHeader b o s)) (s .line) in
+      elim (s .inside) as (λ t. spent (cond (o .inside || not t) (Stop 7 0) close) ≤ 0 + cond t 2 0 + 2) [
+        | true ↦ choose-step (o .inside || false) _ _ 4 (omega arith) (omega arith)
+        | false ↦ rw (or-true (o .inside)) (omega arith)
+      ]
+
+  header-spends : (h : Header) → spent (headerStep n (mode AnyHeader b o s) h) ≤ pending (mode AnyHeader b o s) + 2
+  unfolding spent pending awaited headerStep want wantRecords titleStep titleHeader libraryStep enterSection
+  header-spends (CodeBlock count offset) = unless (o .inside) _ 7 0 _ (omega (arith, none-awaited (eqb count 0) CodeRecord refl))
+  header-spends EndBlock = unless (o .inside) _ 7 0 _ (omega arith)
+  header-spends TitleBlock =
+      choose-step (o .inside) _ _ _ (omega arith)
+      (choose-step (s .inside && leb 256 (s .modules)) _ _ _ (omega arith) (omega arith))
+  header-spends (EntryBlock count) = records-spend EntryRecord count refl
+  header-spends (ExternalBlock count) = records-spend ExternalRecord count refl
+  header-spends LibraryStart = choose-step (o .inside || s .inside) _ _ _ (omega arith) (omega arith)
+  header-spends LibraryEnd = library-end-spends
+  header-spends (DataBlock count) = records-spend DataRecord count refl
+  header-spends (InitBlock count) = records-spend InitRecord count refl
+  header-spends (ParameterBlock count) = records-spend ParameterRecord count refl
+
+  -- a record of kind w is done
+  done-spends : (v w : Wanted) → awaited w ≡ 0 → pending (recordDone w (mode v b o s)) ≤ pending (mode v b o s)
+  unfolding pending recordDone
+  done-spends v w e = omega (arith, none-awaited (leb (b .remaining) 1) w e)
+
+  -- what a line can say where w is wanted
+  answer-spends :
+      (w : Wanted) {a : LineAnswer} → Told w a
+      → spent (stepOf n (mode w b o s) a) ≤ pending (mode w b o s) + 2
+  unfolding spent pending awaited stepOf enterModule closingStep leaveModule entryStep countEntry externalStep countExternal recordDone parameterStep subStep wantSubs
+  answer-spends w bad = omega arith
+  answer-spends w blank = omega arith
+  answer-spends w (head {h} l) = header-spends h
+  answer-spends w (opening l) = omega arith
+  answer-spends w (closing {t} l) = unless (eqb t (o .title)) _ 7 0 _ (omega arith)
+  answer-spends w (coded l) = omega (arith, done-spends CodeRecord CodeRecord refl)
+  answer-spends w (entered l) = unless (ltb (o .entries) 64) _ 8 0 _ (omega (arith, done-spends EntryRecord EntryRecord refl))
+  answer-spends w (mentioned l) =
+      unless (ltb (o .externals) 64) _ 8 0 _ (omega (arith, done-spends ExternalRecord ExternalRecord refl))
+  answer-spends w dataRead = omega (arith, done-spends DataRecord DataRecord refl)
+  answer-spends w initRead = omega (arith, done-spends InitRecord InitRecord refl)
+  answer-spends w (parameter {size} l) =
+      choose-mode (eqb size 0) _ _ _ (omega (arith, done-spends ParameterRecord ParameterRecord refl)) (omega arith)
+  answer-spends w sub =
+      choose-mode (leb (b .subs) 1) _ _ _ (omega (arith, done-spends SubRecord ParameterRecord refl)) (omega arith)
+
+-- an empty line is skipped
+empty-line : (n : ℕ) (m : Mode) → stepAt n m [] ≡ Next m
+unfolding stepOf lineAnswer testBytes lineOf fieldsOf fieldsFrom legalFront
+empty-line n m = refl
+
+pub line-spends : (n : ℕ) (m : Mode) (l : List ℕ) → spent (stepAt n m l) ≤ pending m + (length l + 1)
+unfolding spent
+line-spends n m [] = rw empty-line (omega arith)
+line-spends n m (x ∷ l) =
+    omega (arith, answer-spends n (m .block) (m .object) (m .section) (m .wanted) (line-told (m .wanted) (x ∷ l)))
+
+pub start-pending : pending atStart ≡ 0
+unfolding pending awaited atStart
+start-pending = refl

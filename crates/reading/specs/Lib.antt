@@ -1,0 +1,2 @@
+pub mod TwoTables
+pub mod Filling

@@ -1,0 +1,123 @@
+// Where the reading stands before the first line, and the modes that more than one line leads to.
+use rules::line::Wanted;
+use rules::reading::Mode;
+use rules::reading::OpenBlock;
+use rules::reading::OpenModule;
+use rules::reading::OpenSection;
+ghost use mathlib.Core.Path.{_≡_};
+ghost use Rattle.rules.specs.Reading.{mode, atStart, want, wantRecords, recordDone, wantSubs, enterModule};
+
+pub fn at_start() -> Mode
+    ensures { λ r. ⌜ r ≡ atStart ⌝ }
+{
+    Mode {
+        wanted: Wanted::AnyHeader,
+        block: OpenBlock {
+            offset: 0,
+            count: 0,
+            remaining: 0,
+            subs: 0,
+        },
+        object: OpenModule {
+            inside: false,
+            title: 0,
+            line: 0,
+            entries: 0,
+            externals: 0,
+        },
+        section: OpenSection {
+            inside: false,
+            line: 0,
+            modules: 0,
+        },
+    }
+}
+
+// The same module and section, with another line wanted and another block open.
+fn with_block(wanted: Wanted, block: OpenBlock, m: Mode) -> Mode
+    ensures { λ r. ⌜ r ≡ mode wanted block (m .object) (m .section) ⌝ }
+{
+    let object = m.object;
+    let section = m.section;
+    Mode {
+        wanted,
+        block,
+        object,
+        section,
+    }
+}
+
+pub fn want(wanted: Wanted, m: Mode) -> Mode
+    ensures { λ r. ⌜ r ≡ want wanted m ⌝ }
+{
+    let block = m.block;
+    with_block(wanted, block, m)
+}
+
+pub fn want_records(wanted: Wanted, offset: u16, count: u16, m: Mode) -> Mode
+    ensures { λ r. ⌜ r ≡ wantRecords wanted offset count m ⌝ }
+{
+    let block = OpenBlock {
+        offset,
+        count,
+        remaining: count,
+        subs: 0,
+    };
+    if count == 0 {
+        return with_block(Wanted::AnyHeader, block, m);
+    }
+    with_block(wanted, block, m)
+}
+
+pub fn record_done(wanted: Wanted, m: Mode) -> Mode
+    ensures { λ r. ⌜ r ≡ recordDone wanted m ⌝ }
+{
+    let remaining = m.block.remaining;
+    if remaining <= 1 {
+        let last = OpenBlock {
+            offset: m.block.offset,
+            count: m.block.count,
+            remaining: 0,
+            subs: 0,
+        };
+        return with_block(Wanted::AnyHeader, last, m);
+    }
+    let block = OpenBlock {
+        offset: m.block.offset,
+        count: m.block.count,
+        remaining: remaining - 1,
+        subs: 0,
+    };
+    with_block(wanted, block, m)
+}
+
+pub fn want_subs(size: u16, m: Mode) -> Mode
+    ensures { λ r. ⌜ r ≡ wantSubs size m ⌝ }
+{
+    let block = OpenBlock {
+        offset: m.block.offset,
+        count: m.block.count,
+        remaining: m.block.remaining,
+        subs: size,
+    };
+    with_block(Wanted::SubRecord, block, m)
+}
+
+pub fn enter_module(title: u64, m: Mode) -> Mode
+    ensures { λ r. ⌜ r ≡ enterModule title m ⌝ }
+{
+    let block = m.block;
+    let section = m.section;
+    Mode {
+        wanted: Wanted::AnyHeader,
+        block,
+        object: OpenModule {
+            inside: true,
+            title,
+            line: m.object.line,
+            entries: 0,
+            externals: 0,
+        },
+        section,
+    }
+}

@@ -1,0 +1,22 @@
+// The two faults of a line that is legal in itself: answers 7 and 8.
+use rules::reading::Step;
+ghost use mathlib.Core.Path.{_≡_};
+ghost use Rattle.rules.specs.Reading.{misplaced, listFull};
+
+pub fn misplaced() -> Step
+    ensures { λ r. ⌜ r ≡ misplaced ⌝ }
+{
+    Step::Stop {
+        number: 7,
+        column: 0,
+    }
+}
+
+pub fn list_full() -> Step
+    ensures { λ r. ⌜ r ≡ listFull ⌝ }
+{
+    Step::Stop {
+        number: 8,
+        column: 0,
+    }
+}
