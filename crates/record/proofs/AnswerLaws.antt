@@ -75,7 +75,7 @@ module _ (w : Wanted) {at stop : ℕ} {l : List ℕ} (h : InFile at stop l) wher
 
     pub line-fields : s < stop → {a : LineAnswer} → a ≡ fieldsSay w (endColumn at stop) (lineFields at stop l) → Says a
     unfolding fieldsOf lineOf
-    line-fields g p = p ∙ rw (field-found at stop s l h e g _ refl .fields 1)
+    line-fields g p = p ∙ rw (field-found at stop s l h e g _ refl .anywhere 1)
 
   pub line-whole : {front : ℕ} {a o : LineAnswer} → front ≡ legalFront 80 (part at stop l) → Says o → a ≡ testBytes front (stop - at) o →
       a ≡ lineAnswer w (part at stop l)

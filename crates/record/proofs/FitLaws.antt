@@ -84,7 +84,7 @@ module _ {ks : List Kind} {at stop : ℕ} {l done : List ℕ} {i : ℕ} (s : ℕ
       here =
           let c : i - at + 1 + (s - i) ≡ s - at + 1 = omega (arith, least, f .from) in
           let n : i - at + 1 + (s + length t - i) ≡ s + length t - at + 1 = omega (arith, least, f .from) in
-          ap (behind done) (sym (ap (fit (stop - at + 1) (k ∷ rest)) (found .fields (i - at + 1) ∙ ap₂ (λ (m o : ℕ). field m t ∷ fieldsFrom o (part (s + length t) stop l)) c n) ∙ fit-first _ k rest _ t _))
+          ap (behind done) (sym (ap (fit (stop - at + 1) (k ∷ rest)) (found .anywhere (i - at + 1) ∙ ap₂ (λ (m o : ℕ). field m t ∷ fieldsFrom o (part (s + length t) stop l)) c n) ∙ fit-first _ k rest _ t _))
           ∙ f .same
 
       pub fitting-wrong : {j : FaultKind} → wrong j ≡ readField k t → misfit (fault j (s - at + 1)) ≡ fit (stop - at + 1) ks (lineFields at stop l)
@@ -107,7 +107,7 @@ module _ {ks : List Kind} {at stop : ℕ} {l done : List ℕ} {i : ℕ} (s : ℕ
     fitting-many g =
         let h : InFile i stop l = record { order = f .to; size = f .size } in
         let c : i - at + 1 + (s - i) ≡ s - at + 1 = omega (arith, start-least i stop l h, f .from) in
-        rw (field-found i stop s l h e g _ refl .fields (i - at + 1), c) at (f .same)
+        rw (field-found i stop s l h e g _ refl .anywhere (i - at + 1), c) at (f .same)
 
     -- all fields fit
     pub fitting-end : stop ≤ s → fits done ≡ fit (stop - at + 1) ks (lineFields at stop l)

@@ -17,14 +17,13 @@ use Rattle.rules.specs.declared.line.LineAnswer.the-variants.{Bad, Blank}
 use Rattle.rules.proofs.BoolLaws.{never}
 use Rattle.text.specs.Scan.{part, InFile}
 use Rattle.text.specs.FieldBounds.{fieldStart, fieldStop}
-use Rattle.text.specs.Answers.{asNumber}
+use Rattle.text.specs.Answers.{numberIn}
 use Rattle.text.specs.declared.numbers.Number.{Number}
 use Rattle.text.specs.declared.numbers.Number.the-variants.{Value, NotANumber}
 use Rattle.text.proofs.FieldLaws.{field, field-found, no-field}
 use Rattle.text.proofs.MarkerLaws.{no-block}
 use Rattle.record.specs.Fitting.{lineFields, endColumn}
 use Rattle.record.specs.Shapes.{headerShape, known, shapeOf, shapeLine}
-use Rattle.record.proofs.KindLaws.{number-in, number-out}
 use Rattle.record.proofs.ShapeLaws.{tabulate, at-place, shape-header}
 
 -- ---- which codes are known
@@ -70,8 +69,7 @@ module _ {at stop s : ℕ} {l : List ℕ} (h : InFile at stop l) (e : s ≡ fiel
   unfolding fieldsOf headerLine sayHeader
   header-blank g = rw (no-field at stop s l h e g 1)
 
-  module _ (g : s < stop) (t : List ℕ) (b : t ≡ part (fieldStart s stop l) (fieldStop s stop l) l)
-      {r : Number} (a : r ≡ asNumber (numberOf t)) where
+  module _ (g : s < stop) (t : List ℕ) (b : t ≡ part (fieldStart s stop l) (fieldStop s stop l) l) where
     others : List Field
     others = fieldsFrom (1 + (s + length t - at)) (part (s + length t) stop l)
 
@@ -79,25 +77,26 @@ module _ {at stop s : ℕ} {l : List ℕ} (h : InFile at stop l) (e : s ≡ fiel
     unfolding fieldsOf others
     fields-are =
         let c : 1 + (s - at) ≡ s - at + 1 = omega arith in
-        field-found at stop s l h e g t b .fields 1 ∙ ap (λ (n : ℕ). field n t ∷ others) c
+        field-found at stop s l h e g t b .anywhere 1 ∙ ap (λ (n : ℕ). field n t ∷ others) c
 
     line-is : sayHeader (endColumn at stop) (field (s - at + 1) t ∷ others) (rowAt (numberOf t)) ≡ headerLine (endColumn at stop) (lineFields at stop l)
     unfolding headerLine firstText
     line-is = rw fields-are
 
-    pub header-no : r ≡ NotANumber → {o : LineAnswer} → o ≡ Bad (fault BadMarker (s - at + 1)) → Says o
-    unfolding rowAt known
-    header-no n p = p ∙ as-fault _ _ _ none refl ∙ (rw (number-out (numberOf t) (sym a ∙ n)) at line-is)
+    module _ {r : Number} (a : numberIn r ≡ numberOf t) where
+      pub header-no : r ≡ NotANumber → {o : LineAnswer} → o ≡ Bad (fault BadMarker (s - at + 1)) → Says o
+      unfolding rowAt known
+      header-no n p = p ∙ as-fault _ _ _ none refl ∙ (rw (sym a ∙ ap numberIn n) at line-is)
 
-    module _ {c : ℕ} (v : r ≡ Value c) {x : Bool} (k : x ≡ known (rowOf c)) where
-      pub header-unknown : x ≡ false → {o : LineAnswer} → o ≡ Bad (fault BadMarker (s - at + 1)) → Says o
-      unfolding rowAt
-      header-unknown n p =
-          p ∙ as-fault _ _ _ (rowOf c) (sym k ∙ n) ∙ (rw (number-in (numberOf t) (sym a ∙ v)) at line-is)
+      module _ {c : ℕ} (v : r ≡ Value c) {x : Bool} (k : x ≡ known (rowOf c)) where
+        pub header-unknown : x ≡ false → {o : LineAnswer} → o ≡ Bad (fault BadMarker (s - at + 1)) → Says o
+        unfolding rowAt
+        header-unknown n p =
+            p ∙ as-fault _ _ _ (rowOf c) (sym k ∙ n) ∙ (rw (sym a ∙ ap numberIn v) at line-is)
 
-      pub header-known : x ≡ true → {o : LineAnswer} → o ≡ shapeLine c (endColumn at stop) (lineFields at stop l) → Says o
-      unfolding rowAt shapeLine
-      header-known n p =
-          p
-          ∙ (rw (shape-header c (known-small c (sym k ∙ n)), fields-are) (as-shape _ _ _ (rowOf c) (sym k ∙ n)))
-          ∙ (rw (number-in (numberOf t) (sym a ∙ v)) at line-is)
+        pub header-known : x ≡ true → {o : LineAnswer} → o ≡ shapeLine c (endColumn at stop) (lineFields at stop l) → Says o
+        unfolding rowAt shapeLine
+        header-known n p =
+            p
+            ∙ (rw (shape-header c (known-small c (sym k ∙ n)), fields-are) (as-shape _ _ _ (rowOf c) (sym k ∙ n)))
+            ∙ (rw (sym a ∙ ap numberIn v) at line-is)

@@ -13,7 +13,7 @@ use Rattle.rules.specs.Line.{value, wrong, held, inBounds, readField, sameText,
 use Rattle.rules.specs.declared.line.FaultKind.{FaultKind}
 use Rattle.rules.specs.declared.line.FaultKind.the-variants.{BadMarker, BadNumber, BadName}
 use Rattle.rules.specs.declared.line.Kind.the-variants.{Number, Name, Marker}
-use Rattle.text.specs.Answers.{asNumber, asName}
+use Rattle.text.specs.Answers.{numberIn, nameIn}
 use Rattle.text.specs.declared.numbers.Number.{Number as AnyNumber}
 use Rattle.text.specs.declared.numbers.Number.the-variants.{Value, NotANumber}
 use Rattle.text.specs.declared.names.Name.{Name as AnyName}
@@ -21,56 +21,34 @@ use Rattle.text.specs.declared.names.Name.the-variants.{Packed, NotAName}
 use Rattle.text.proofs.ScanLaws.{between-yes, between-low, between-high}
 use Rattle.record.specs.Fitting.{kindOf}
 
--- ---- numbers and names
-
-pub number-in : {n : ℕ} (o : Option ℕ) → asNumber o ≡ Value n → o ≡ some n
-unfolding asNumber
-number-in none e = absurd (let z : _≡_ {A = ℕ} 0 1 = cc in omega arith)
-number-in (some v) e = cc
-
-pub number-out : (o : Option ℕ) → asNumber o ≡ NotANumber → o ≡ none
-unfolding asNumber
-number-out none e = refl
-number-out (some v) e = absurd (let z : _≡_ {A = ℕ} 0 1 = cc in omega arith)
-
-name-in : {x : ℕ} (o : Option ℕ) → asName o ≡ Packed x → o ≡ some x
-unfolding asName
-name-in none e = absurd (let z : _≡_ {A = ℕ} 0 1 = cc in omega arith)
-name-in (some v) e = cc
-
-name-out : (o : Option ℕ) → asName o ≡ NotAName → o ≡ none
-unfolding asName
-name-out none e = refl
-name-out (some v) e = absurd (let z : _≡_ {A = ℕ} 0 1 = cc in omega arith)
-
 -- ---- a field of each kind
 
-module _ (low high : ℕ) (j : FaultKind) (f : List ℕ) {r : AnyNumber} (e : r ≡ asNumber (numberOf f)) where
+module _ (low high : ℕ) (j : FaultKind) (f : List ℕ) {r : AnyNumber} (e : numberIn r ≡ numberOf f) where
   pub number-no : r ≡ NotANumber → wrong BadNumber ≡ readField (Number low high j) f
   unfolding readField inBounds held
-  number-no g = rw (number-out (numberOf f) (sym e ∙ g))
+  number-no g = rw (sym e ∙ ap numberIn g)
 
   module _ {n : ℕ} (g : r ≡ Value n) where
     pub number-low : n < low → wrong j ≡ readField (Number low high j) f
     unfolding readField inBounds held
-    number-low h = rw (number-in (numberOf f) (sym e ∙ g)) (simp (between-low low high n h))
+    number-low h = rw (sym e ∙ ap numberIn g) (simp (between-low low high n h))
 
     pub number-high : high < n → wrong j ≡ readField (Number low high j) f
     unfolding readField inBounds held
-    number-high h = rw (number-in (numberOf f) (sym e ∙ g)) (simp (between-high low high n h))
+    number-high h = rw (sym e ∙ ap numberIn g) (simp (between-high low high n h))
 
     pub number-yes : low ≤ n → n ≤ high → value n ≡ readField (Number low high j) f
     unfolding readField inBounds held
-    number-yes h k = rw (number-in (numberOf f) (sym e ∙ g)) (simp (between-yes low high n h k))
+    number-yes h k = rw (sym e ∙ ap numberIn g) (simp (between-yes low high n h k))
 
-module _ (f : List ℕ) {r : AnyName} (e : r ≡ asName (nameOf f)) where
+module _ (f : List ℕ) {r : AnyName} (e : nameIn r ≡ nameOf f) where
   pub name-yes : {x : ℕ} → r ≡ Packed x → value x ≡ readField Name f
   unfolding readField held
-  name-yes g = rw (name-in (nameOf f) (sym e ∙ g))
+  name-yes g = rw (sym e ∙ ap nameIn g)
 
   pub name-no : r ≡ NotAName → wrong BadName ≡ readField Name f
   unfolding readField held
-  name-no g = rw (name-out (nameOf f) (sym e ∙ g))
+  name-no g = rw (sym e ∙ ap nameIn g)
 
 module _ (f : List ℕ) (c : ℕ) {t : Bool} (e : t ≡ sameText f (markerOf c)) where
   pub marker-yes : t ≡ true → value 0 ≡ readField (Marker c) f
@@ -83,14 +61,14 @@ module _ (f : List ℕ) (c : ℕ) {t : Bool} (e : t ≡ sameText f (markerOf c))
 
 -- ---- is a field the number 1
 
-module _ (f : List ℕ) {r : AnyNumber} (e : r ≡ asNumber (numberOf f)) where
+module _ (f : List ℕ) {r : AnyNumber} (e : numberIn r ≡ numberOf f) where
   pub one-is : {n : ℕ} → r ≡ Value n → eqb n 1 ≡ isOne (numberOf f)
   unfolding isOne
-  one-is g = rw (number-in (numberOf f) (sym e ∙ g))
+  one-is g = rw (sym e ∙ ap numberIn g)
 
   pub one-not : r ≡ NotANumber → false ≡ isOne (numberOf f)
   unfolding isOne
-  one-not g = rw (number-out (numberOf f) (sym e ∙ g))
+  one-not g = rw (sym e ∙ ap numberIn g)
 
 -- ---- the letters of the kinds
 

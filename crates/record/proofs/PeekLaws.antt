@@ -60,7 +60,7 @@ module _ (i stop s : ℕ) (l : List ℕ) (h : InFile i stop l) (e : s ≡ fieldS
           record {
             least = omega (arith, start-least i stop l h);
             most = f .fits;
-            texts = λ c k. ap (λ (fs : List Field). textAt fs (suc k)) (f .fields c) ∙ text-next _ _ k;
+            texts = λ c k. ap (λ (fs : List Field). textAt fs (suc k)) (f .anywhere c) ∙ text-next _ _ k;
           }
       go false x =
           let n : s ≡ stop = omega (arith, ltb-false s stop x, start-most i stop l h) in

@@ -18,7 +18,7 @@ use Rattle.rules.specs.declared.line.LineAnswer.{LineAnswer}
 use Rattle.rules.specs.declared.line.LineAnswer.the-variants.{Bad, Code}
 use Rattle.text.specs.Scan.{part, InFile}
 use Rattle.text.specs.FieldBounds.{fieldStart, fieldStop}
-use Rattle.text.specs.Answers.{asNumber}
+use Rattle.text.specs.Answers.{numberIn}
 use Rattle.text.specs.declared.numbers.Number.{Number as AnyNumber}
 use Rattle.text.specs.declared.numbers.Number.the-variants.{Value, NotANumber}
 use Rattle.record.specs.Fitting.{lineFields, endColumn}
@@ -108,7 +108,7 @@ module _ {at stop : ℕ} {l : List ℕ} {text i k : ℕ} (q : Quarters at stop l
     quarters-few g b = told b (fitting-few s e next g)
 
     module _ (g : s < stop) (t : List ℕ) (b : t ≡ part (fieldStart s stop l) (fieldStop s stop l) l)
-        {r : AnyNumber} (a : r ≡ asNumber (numberOf t)) where
+        {r : AnyNumber} (a : numberIn r ≡ numberOf t) where
       pub quarters-wrong : r ≡ NotANumber → {o : LineAnswer} → o ≡ Bad (fault BadNumber (s - at + 1)) → Says o
       quarters-wrong w o = told o (fitting-wrong s e next g t b (number-no 0 65535 BadNumber t a w))
 

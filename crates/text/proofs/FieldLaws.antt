@@ -176,11 +176,15 @@ no-gap (b ∷ rest) e h = go (eqb b space) refl
     go true f = absurd (omega (arith, run-yes isSpace b rest f))
     go false f = omega (arith, width-more 0 b rest f)
 
--- a field with the text t was found at s, and the others stand behind it. Columns count from the line's start, `at`
+-- a field with the text t was found at s, and the others stand behind it. Columns count from c at position i, or from the line's
+-- start, `at`
 pub record FieldFound (i stop s : ℕ) (l t : List ℕ) : Type 0 where
   pub ahead : i ≤ s
   pub some : 0 < length t
   pub fits : s + length t ≤ stop
+  pub anywhere : (c : ℕ)
+      → fieldsFrom c (part i stop l)
+      ≡ field (c + (s - i)) t ∷ fieldsFrom (c + (s + length t - i)) (part (s + length t) stop l)
   pub fields : (at : ℕ) → at ≤ i
       → fieldsFrom (i - at + 1) (part i stop l)
       ≡ field (s - at + 1) t ∷ fieldsFrom (s + length t - at + 1) (part (s + length t) stop l)
@@ -239,6 +243,7 @@ module _ (i stop s : ℕ) (l : List ℕ) (h : InFile i stop l) (e : s ≡ fieldS
           ahead = ahead;
           some = some;
           fits = omega (arith, size-is, stop-most i stop l h);
+          anywhere = λ c. next-field i stop l h c ∙ rw (← text-is, ← size-is, ← e) (first-some _ _ some);
           fields = λ at before.
               let column : i - at + 1 + (s - i) ≡ s - at + 1 = omega arith in
               let behind : i - at + 1 + (s + length t - i) ≡ s + length t - at + 1 = omega arith in

@@ -1,0 +1,29 @@
+-- How the walk over the rows says what it did.
+use Prim.Native.Nat.{ℕ, _+_, _≤_}
+use mathlib.Core.Bool.{Bool, cond}
+use mathlib.Core.List.{List}
+use mathlib.Core.Path.{_≡_}
+use lib.Dec.{eqb}
+use Rattle.rules.specs.Reading.{Module, Item, free, section}
+use Rattle.rules.specs.Load.{Walk, Progress, walkItem, walkItems, testSection}
+use Rattle.tables.specs.Tables.{kindIn, freeRow, sectionRow, moduleIn, sectionIn}
+use Rattle.state.specs.Good.{Good}
+use Rattle.library.specs.Searching.{Agrees}
+use Rattle.walking.specs.declared.Walked.{Walked}
+
+-- what a row does to the walk: a free module is placed, a section searched; a member counts with its section
+unfoldable pub rowStep : List ℕ → List ℕ → ℕ → Progress → Progress
+rowStep parts rows i p =
+    cond (eqb (kindIn rows i) freeRow) (walkItem p (free (moduleIn parts rows i)))
+    (cond (eqb (kindIn rows i) sectionRow) (walkItem p (sectionIn parts rows i)) p)
+
+-- the walk's numbers and state, and its rounds
+pub record Goes (p : Progress) (fault line rounds : ℕ) (cells : List ℕ) : Type 0 where
+  pub agrees : Agrees (p .walk) fault line cells
+  pub rounds-are : rounds ≡ p .rounds
+
+-- how a walk goes on from there, with at most n rounds more
+pub record Went (change : Progress → Progress) (n fault line rounds : ℕ) (before : List ℕ) (r : Walked) (after : List ℕ) : Type 0 where
+  pub good : Good after
+  pub most : r .rounds ≤ rounds + n
+  pub does : (p : Progress) → Goes p fault line rounds before → Goes (change p) (r .fault) (r .line) (r .rounds) after
