@@ -1,0 +1,2 @@
+// The search of a library section, over the tables.
+mod modules;
