@@ -1,1 +1,2 @@
 pub mod ModuleLaws
+pub mod TurnLaws

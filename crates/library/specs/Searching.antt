@@ -6,10 +6,13 @@ use mathlib.Core.Path.{_≡_}
 use lib.ListN.{length, getD}
 use Rattle.rules.specs.Reading.{Module}
 use Rattle.rules.specs.Placing.{externals}
-use Rattle.rules.specs.Load.{Walk}
+use Rattle.rules.specs.Search.{Places, Sweep}
+use Rattle.rules.specs.Load.{Walk, wants, place}
 use Rattle.tables.specs.Tables.{moduleIn}
 use Rattle.state.specs.Layout.{decode}
 use Rattle.state.specs.Good.{Good}
+use Rattle.library.specs.declared.taking.Told.{Told}
+use Rattle.library.specs.declared.taking.Turn.{Turn}
 
 -- the numbers are the walk's, and so is the state where it is not refused
 pub record Agrees (w : Walk) (fault line : ℕ) (cells : List ℕ) : Type 0 where
@@ -20,3 +23,20 @@ pub record Agrees (w : Walk) (fault line : ℕ) (cells : List ℕ) : Type 0 wher
 -- the modules of n rows from row i on have no more externals than the reading lets pass
 abbrev pub Few : List ℕ → List ℕ → ℕ → ℕ → Type 0
 Few parts rows i n = (k : ℕ) → k < n → length (externals (moduleIn parts rows (i + k))) ≤ 64
+
+-- ---- a module in turn
+
+pub record PlacedRow (m : Module) (fault line : ℕ) (before : List ℕ) (r : Told) (after : List ℕ) : Type 0 where
+  pub good : Good after
+  pub does : (w : Walk) → Agrees w fault line before → Agrees (place w m) (r .fault) (r .line) after
+
+-- a visit by a walk: whether the module is taken afterwards, how many were taken now, and how the walk goes on
+pub record Turned (m : Module) (flag : Bool) (w : Walk) (r : Turn) (after : List ℕ) : Type 0 where
+  pub flag-is : r .flag ≡ (flag || wants w m)
+  pub took-is : r .took ≡ cond (flag || not (wants w m)) 0 1
+  pub agrees : Agrees (cond (flag || not (wants w m)) w (place w m)) (r .fault) (r .line) after
+
+pub record Visited (m : Module) (flag : Bool) (fault line : ℕ) (before : List ℕ) (r : Turn) (after : List ℕ) : Type 0 where
+  pub good : Good after
+  pub most : r .took ≤ 1
+  pub does : (w : Walk) → Agrees w fault line before → Turned m flag w r after

@@ -1,2 +1,3 @@
 // The search of a library section, over the tables.
-mod modules;
+pub mod modules;
+pub mod taking;
