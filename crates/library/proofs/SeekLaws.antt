@@ -41,15 +41,16 @@ unfolding nowhere
 clear n = same-places (clear-flag n)
 
 -- a round flags as many modules as it took
-pub round-counts : {ms : List Module} {flags : List Bool} {fault line : ℕ} {cells : List ℕ} {r : Round} {after : List ℕ} →
-    Rounded ms flags fault line cells r after →
-    count (setOf (r .flags)) (length ms) ≡ count (setOf flags) (length ms) + r .took
-round-counts {ms} {flags} {fault} {line} {cells} {r} q =
+pub round-counts : {ms : List Module} {n : ℕ} → length ms ≡ n → {flags : List Bool} {fault line : ℕ} {cells : List ℕ}
+    {r : Round} {after : List ℕ} → Rounded ms flags fault line cells r after →
+    count (setOf (r .flags)) n ≡ count (setOf flags) n + r .took
+round-counts {ms} {n} e {flags} {fault} {line} {cells} {r} q =
     let w : Walk = record { number = fault; line = line; state = decode cells } in
     let d = q .does w (record { number = refl; line-is = refl; state-is = λ _. refl }) in
-    ap (λ t. count t (length ms)) (d .taken-is)
+    subst (λ k. count (setOf (r .flags)) k ≡ count (setOf flags) k + r .took) e
+    (ap (λ t. count t (length ms)) (d .taken-is)
     ∙ round-took wants place ms (setOf flags) w
-    ∙ ap (λ k. count (setOf flags) (length ms) + k) (sym (d .took-is))
+    ∙ ap (λ k. count (setOf flags) (length ms) + k) (sym (d .took-is)))
 
 -- ---- the search
 

@@ -57,10 +57,10 @@ fn is_wanted(head: u64, name: u64, state: &[u64]) -> bool
     requires { ⌜ Good (now state) ⌝ }
     ensures { λ r. ⌜ r ≡ (isEntry head && isUndefined name (decode (now (state .entry)) .symbols)) ⌝ }
 {
-    if is_entry(head) {
-        return is_undefined(state, name);
+    if !is_entry(head) {
+        return false;
     }
-    false
+    is_undefined(state, name)
 }
 
 // Is one of the module's entries undefined in the table?
