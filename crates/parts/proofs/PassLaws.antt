@@ -19,7 +19,7 @@ pub one-most : (head : ℕ) {r : ℕ} → r ≡ cond (isExternal head) 1 0 → r
 one-most head {r} e = cond-cases (λ k. r ≡ k → r ≤ 1) (isExternal head) 1 0 (λ _ q. omega arith) (λ _ q. omega arith) e
 
 -- a test that some part passes, which is p at the part in turn: r is what the code found there
-turned : {a : Bool} (p rest : Bool) {whole r b : Bool} → a ≡ (p || rest) → a ≡ whole → r ≡ p → r ≡ b → (b || rest) ≡ whole
+pub turned : {a : Bool} (p rest : Bool) {whole r b : Bool} → a ≡ (p || rest) → a ≡ whole → r ≡ p → r ≡ b → (b || rest) ≡ whole
 turned p rest e w q t = sym (ap (λ b. b || rest) (sym q ∙ t)) ∙ sym e ∙ w
 
 -- a name stands twice, or is defined: the first one, or one of the rest

@@ -178,3 +178,9 @@ module _ (s : State) (ps : List Part) {base : ℕ} (b : base ≡ s .next) where
                             ∙ ap₂ (λ ws k. state table ws k (s .mark)) words next
                             ∙ rw b;
                       }
+
+-- a module's line does not matter
+pub any-line : {s : State} {n k : ℕ} {ps : List Part} {r : ℕ} {after : List ℕ} → Tried s (moduleAt n ps) r after →
+    Tried s (moduleAt k ps) r after
+unfolding placingFault placed noRoom overlaps badArguments outOfRange duplicates tableFull joined
+any-line t = record { number = t .number; most = t .most; good = t .good; done = t .done }

@@ -1,0 +1,4 @@
+pub mod ModuleLaws
+pub mod TurnLaws
+pub mod SweepLaws
+pub mod SeekLaws

@@ -1,0 +1,145 @@
+-- A module in turn, in the words of the code.
+use Prim.Native.Nat.{ℕ, _≤_}
+use native.Mathlib.Omega.{arith}
+use mathlib.Core.Bool.{Bool, true, false, cond, not, _&&_, _||_}
+use mathlib.Core.List.{List}
+use mathlib.Core.Logic.{_≢_}
+use mathlib.Core.Path.{_≡_, refl, sym, ap, ap₂, subst, _∙_}
+use lib.ListN.{length}
+use lib.Dec.{eqb}
+use borrow.Author.Tests.{eq-eqb, ne-eqb, not-true, not-false}
+use Rattle.rules.specs.Reading.{Module, moduleAt}
+use Rattle.rules.specs.State.{State}
+use Rattle.rules.specs.Placing.{externals, externalsIn, placingFault, placed}
+use Rattle.rules.specs.Load.{Walk, walking, refusedAt, accepted, tryPlace, place, wanted, wants}
+use Rattle.tables.specs.Tables.{partsOf, lineIn, startIn, endIn, cellsIn, moduleIn}
+use Rattle.state.specs.Layout.{decode}
+use Rattle.state.specs.Good.{Good}
+use Rattle.placing.specs.Effects.{Tried}
+use Rattle.placing.proofs.PlaceLaws.{any-line}
+use Rattle.library.specs.Searching.{Agrees, PlacedRow, Turned, Visited}
+use Rattle.library.specs.declared.taking.Told.{Told}
+use Rattle.library.specs.declared.taking.Turn.{Turn}
+use Rattle.library.proofs.ModuleLaws.{wanted-is}
+
+-- the module of a row, from the cells that are lent
+module _ (parts rows : List ℕ) (row : ℕ) {cells : List ℕ}
+    (q : cells ≡ cellsIn parts (startIn rows row) (endIn rows row)) where
+  module-is : moduleIn parts rows row ≡ moduleAt (lineIn rows row) (partsOf cells)
+  unfolding moduleIn
+  module-is = sym (ap (λ l. moduleAt (lineIn rows row) (partsOf l)) q)
+
+  pub few-lent : length (externals (moduleIn parts rows row)) ≤ 64 → length (externalsIn (partsOf cells)) ≤ 64
+  few-lent h = subst (λ (m : Module). length (externals m) ≤ 64) module-is h
+
+  pub tried-row : {s : State} {r : ℕ} {after : List ℕ} → Tried s (moduleAt 0 (partsOf cells)) r after →
+      Tried s (moduleIn parts rows row) r after
+  tried-row {s} {r} {after} t = subst (λ m. Tried s m r after) (sym module-is) (any-line t)
+
+  pub wanted-row : (s : State) {r : Bool} → r ≡ wanted s (moduleAt 0 (partsOf cells)) → r ≡ wanted s (moduleIn parts rows row)
+  wanted-row s e =
+      e ∙ wanted-is s 0 (partsOf cells) ∙ sym (wanted-is s (lineIn rows row) (partsOf cells)) ∙ ap (wanted s) (sym module-is)
+
+  pub line-row : moduleIn parts rows row .line ≡ lineIn rows row
+  unfolding moduleIn
+  line-row = refl
+
+-- ---- placing
+
+module _ {w : Walk} {fault line : ℕ} {cells : List ℕ} (a : Agrees w fault line cells) where
+  pub goes-on : fault ≡ 0 → accepted w ≡ true
+  goes-on z = eq-eqb (w .number) 0 (sym (a .number) ∙ z)
+
+  pub stands : fault ≢ 0 → accepted w ≡ false
+  stands n = ne-eqb (w .number) 0 (λ e. n (a .number ∙ e))
+
+module _ {m : Module} {fault line : ℕ} {before : List ℕ} where
+  pub place-refused : Good before → fault ≢ 0 → PlacedRow m fault line before (record { fault = fault; line = line }) before
+  unfolding place
+  place-refused g n =
+      record {
+        good = g;
+        does = λ w a. subst (λ v. Agrees v fault line before) (sym (rw (stands a n))) a;
+      }
+
+  module _ (z : fault ≡ 0) {r : ℕ} {after : List ℕ} (t : Tried (decode before) m r after) where
+    pub place-done : r ≡ 0 → PlacedRow m fault line before (record { fault = 0; line = 0 }) after
+    unfolding place tryPlace
+    place-done e =
+        record {
+          good = t .good;
+          does =
+              λ w a.
+              let s : decode before ≡ w .state = a .state-is z in
+              let none : placingFault (w .state) m ≡ 0 = ap (λ v. placingFault v m) (sym s) ∙ sym (t .number) ∙ e in
+              rw (goes-on a z, none)
+              (record { number = refl; line-is = refl; state-is = λ _. t .done e ∙ ap (λ v. placed v m) s });
+        }
+
+    pub place-not : r ≢ 0 → {l : ℕ} → l ≡ m .line → PlacedRow m fault line before (record { fault = r; line = l }) after
+    unfolding place tryPlace
+    place-not n {l} q =
+        record {
+          good = t .good;
+          does =
+              λ w a.
+              let s : decode before ≡ w .state = a .state-is z in
+              let is : r ≡ placingFault (w .state) m = t .number ∙ ap (λ v. placingFault v m) s in
+              rw (goes-on a z, ne-eqb (placingFault (w .state) m) 0 (λ e. n (is ∙ e)))
+              (record { number = is; line-is = q; state-is = λ e. absurd (n e) });
+        }
+
+-- ---- visiting
+
+-- a visit, by what it finds: b of the flag, d of the walk
+turn-is : {m : Module} {flag : Bool} {w : Walk} {r : Turn} {after : List ℕ} (b d : Bool) → flag ≡ b → wants w m ≡ d →
+    r .flag ≡ (b || d) → r .took ≡ cond (b || not d) 0 1 →
+    Agrees (cond (b || not d) w (place w m)) (r .fault) (r .line) after → Turned m flag w r after
+turn-is {m} {flag} {w} {r} {after} b d e f p q a =
+    record {
+      flag-is = p ∙ sym (ap₂ _||_ e f);
+      took-is = q ∙ sym (ap₂ (λ x y. cond (x || not y) 0 1) e f);
+      agrees = subst (λ v. Agrees v (r .fault) (r .line) after) (sym (ap₂ (λ x y. cond (x || not y) w (place w m)) e f)) a;
+    }
+
+module _ {m : Module} {fault line : ℕ} {before : List ℕ} where
+  module _ (g : Good before) where
+    pub visit-taken : {flag : Bool} → flag ≡ true →
+        Visited m flag fault line before (record { flag = true; took = 0; fault = fault; line = line }) before
+    visit-taken e =
+        record { good = g; most = omega arith; does = λ w a. turn-is true (wants w m) e refl refl refl a }
+
+    module _ {flag : Bool} (e : flag ≡ false) where
+      -- a module that no walk wants
+      left-alone : ((w : Walk) → Agrees w fault line before → wants w m ≡ false) →
+          Visited m flag fault line before (record { flag = false; took = 0; fault = fault; line = line }) before
+      left-alone f =
+          record { good = g; most = omega arith; does = λ w a. turn-is false false e (f w a) refl refl a }
+
+      pub visit-refused : fault ≢ 0 →
+          Visited m flag fault line before (record { flag = false; took = 0; fault = fault; line = line }) before
+      unfolding wants
+      visit-refused n = left-alone (λ w a. rw (stands a n))
+
+      pub visit-unwanted : fault ≡ 0 → {r : Bool} → r ≡ wanted (decode before) m → not r ≡ true →
+          Visited m flag fault line before (record { flag = false; took = 0; fault = fault; line = line }) before
+      unfolding wants
+      visit-unwanted z {r} q n =
+          left-alone (λ w a. rw (goes-on a z, sym (q ∙ ap (λ s. wanted s m) (a .state-is z)) ∙ not-true r n))
+
+  pub visit-placed : {flag : Bool} → flag ≡ false → fault ≡ 0 → {r : Bool} → r ≡ wanted (decode before) m → not r ≡ false →
+      {t : Told} {after : List ℕ} → PlacedRow m fault line before t after →
+      Visited m flag fault line before (record { flag = true; took = 1; fault = t .fault; line = t .line }) after
+  unfolding wants
+  visit-placed e z {r} q n p =
+      record {
+        good = p .good;
+        most = omega arith;
+        does =
+            λ w a.
+            turn-is false true e
+            (rw (goes-on a z, sym (q ∙ ap (λ s. wanted s m) (a .state-is z)) ∙ not-false r n))
+            refl
+            refl
+            (p .does w a);
+      }

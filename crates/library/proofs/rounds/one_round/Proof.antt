@@ -1,0 +1,70 @@
+use lib.ListN.{length, length-set}
+use Prim.Native.Nat.{_-_, _≤_}
+use Rattle.library.proofs.SweepLaws.{from, swept-start, swept-next, swept-done}
+use borrow.Author.Needs.{needs}
+use native.Mathlib.Omega.{arith}
+use mathlib.Core.Path.{_≡_, refl, sym, ap, subst, _∙_}
+use Rattle.rules.specs.Search.{round}
+use Rattle.rules.specs.Load.{Walk, wants, place}
+use Rattle.tables.specs.Tables.{modulesIn}
+use Rattle.state.specs.Good.{Good}
+use Rattle.library.specs.Searching.{Agrees, setOf, Swept}
+use Rattle.library.proofs.rounds.one_round.Statement.{statement}
+use Rattle.library.proofs.rounds.one_round.Tie as tie
+
+abbrev Inv-loop : tie.InvT-loop
+Inv-loop parts rows first n fault line state₀ marks₀ took₀ number₀ at₀ i₀ state marks took number at i = (i ≤ n) × Good state × (length state ≡ length state₀) × (length marks ≡ 256) × (took ≤ i) × ((w : Walk) → Agrees w fault line state₀ → Swept (round wants place (modulesIn parts rows first n) (setOf marks₀) w) i took (from parts rows first n i) marks number at state)
+
+abbrev μ-loop : tie.MeasureT-loop
+μ-loop parts rows first n fault line state₀ marks₀ took₀ number₀ at₀ i₀ state marks took number at i = n - i
+
+loop-holds : tie.Need-loop-holds Inv-loop μ-loop
+loop-holds c = let a = c .before .before .before .args in (omega arith, c .before .before .before .pre .1 .1 .1, refl, search needs, omega arith, λ w g. swept-start (a .parts .now) (a .rows .now) (a .first) (a .n) (a .flags) w g)
+
+add-visit : tie.Need-add-visit Inv-loop μ-loop
+add-visit c = omega (arith, c .before .before .before .before .before .pre .0, c .before .before .before .before .before .pre .1 .0)
+
+array-read-visit : tie.Need-array-read-visit Inv-loop μ-loop
+array-read-visit c = omega (arith, c .before .before .before .before .before .pre .1 .0)
+
+visit-requires : tie.Need-visit-requires Inv-loop μ-loop
+visit-requires c κs = let l = c .before .before .loop in let p = c .before .before .before .before .before .before .pre in (omega (arith, p .0, p .1 .0), (p .1 .1 .0 (l .i) (c .before .loop-test .taken), l .inv .1))
+
+array-write-marks : tie.Need-array-write-marks Inv-loop μ-loop
+array-write-marks c = omega (arith, c .before .before .before .before .before .before .before .before .before .pre .1 .0, c .before .before .before .before .loop-test .taken)
+
+add-took : tie.Need-add-took Inv-loop μ-loop
+add-took c = omega (arith, c .before .before .before .before .before .before .before .before .before .before .pre .1 .0, c .before .before .before .visit .ensures .most, c .before .before .before .before .before .before .loop .inv .4, c .before .before .before .before .before .loop-test .taken)
+
+add-i : tie.Need-add-i Inv-loop μ-loop
+add-i c = omega (arith, c .before .before .before .before .before .before .before .before .before .before .pre .1 .0, c .before .before .before .before .before .loop-test .taken)
+
+loop-less : tie.Need-loop-less Inv-loop μ-loop
+loop-less c = omega (arith, c .before .before .before .before .before .loop-test .taken)
+
+loop-again : tie.Need-loop-again Inv-loop μ-loop
+loop-again c = let l = c .before .before .before .before .before .before .loop in let a = c .before .before .before .before .before .before .before .before .before .before .args in let v = c .before .before .before .visit .ensures in let b = c .before .before .before .before .before .loop-test .taken in (omega arith, v .good, omega (arith, v .good .long, l .inv .1 .long, l .inv .2), simp length-set (l .inv .3), omega (arith, v .most, l .inv .4), λ w g. swept-next (a .parts .now) (a .rows .now) (a .first) (a .n) (l .inv .5 w g) b (omega (arith, c .before .before .before .before .before .before .before .before .before .before .pre .1 .0, l .inv .3)) v)
+
+same-length : tie.Need-same-length Inv-loop μ-loop
+same-length c = c .before .loop .inv .2
+
+returns : tie.Need-returns Inv-loop μ-loop
+returns c = let l = c .before .loop in let a = c .before .before .before .before .before .args in record { good = l .inv .1; long = l .inv .3; does = λ w g. swept-done (a .parts .now) (a .rows .now) (a .first) (a .n) (l .inv .5 w g) (c .loop-test .left) }
+
+pub one-round-spec : {M : Type 1} → statement M
+one-round-spec =
+    tie.close
+    (tie.spec
+    Inv-loop
+    μ-loop
+    loop-holds
+    add-visit
+    array-read-visit
+    visit-requires
+    array-write-marks
+    add-took
+    add-i
+    loop-less
+    loop-again
+    same-length
+    returns)

@@ -1,0 +1,4 @@
+// The search of a library section, over the tables.
+pub mod modules;
+pub mod rounds;
+pub mod taking;

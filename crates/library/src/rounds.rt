@@ -1,0 +1,97 @@
+// The rounds of a section's search. Its modules are those of n rows from row `first` on.
+use crate::taking::visit;
+ghost use Prim.Native.Nat.{_≤_};
+ghost use mathlib.Core.Path.{_≡_};
+ghost use lib.ListN.{length};
+ghost use Rattle.tables.specs.Tables.{modulesIn};
+ghost use Rattle.state.specs.Good.{Good};
+ghost use Rattle.library.specs.Searching.{Few, Rounded, Sought};
+
+// After a round: the flags of the modules taken, how many this round took, and the refusal.
+pub struct Round {
+    pub flags: [bool; 256],
+    pub took: usize,
+    pub fault: u64,
+    pub line: u64,
+}
+
+fn one_round(
+    parts: &[u64],
+    rows: &[u64],
+    first: usize,
+    n: usize,
+    flags: [bool; 256],
+    fault: u64,
+    line: u64,
+    state: &mut [u64],
+) -> Round
+    requires { ⌜ first ≤ 65535 ⌝ }
+    requires { ⌜ n ≤ 256 ⌝ }
+    requires { ⌜ Few (now parts) (now rows) first n ⌝ }
+    requires { ⌜ Good (now state) ⌝ }
+    ensures { λ r. ⌜ Rounded (modulesIn (now (parts .entry)) (now (rows .entry)) first n) flags fault line (now (state .entry)) r (now (state .exit)) ⌝ }
+{
+    let mut marks = flags;
+    let mut took = 0;
+    let mut number = fault;
+    let mut at = line;
+    let mut i = 0;
+    while i < n {
+        let v = visit(parts, rows, first + i, marks[i], number, at, state);
+        marks[i] = v.flag;
+        took += v.took;
+        number = v.fault;
+        at = v.line;
+        i += 1;
+    }
+    Round {
+        flags: marks,
+        took,
+        fault: number,
+        line: at,
+    }
+}
+
+// After a search: the refusal, and the number of rounds.
+pub struct Outcome {
+    pub fault: u64,
+    pub line: u64,
+    pub rounds: usize,
+}
+
+// Rounds until one takes nothing.
+pub fn search(
+    parts: &[u64],
+    rows: &[u64],
+    first: usize,
+    n: usize,
+    fault: u64,
+    line: u64,
+    state: &mut [u64],
+) -> Outcome
+    requires { ⌜ first ≤ 65535 ⌝ }
+    requires { ⌜ n ≤ 256 ⌝ }
+    requires { ⌜ Few (now parts) (now rows) first n ⌝ }
+    requires { ⌜ Good (now state) ⌝ }
+    ensures { λ r. ⌜ Sought (modulesIn (now (parts .entry)) (now (rows .entry)) first n) fault line (now (state .entry)) r (now (state .exit)) ⌝ }
+{
+    let mut flags = [false; 256];
+    let mut took = 1;
+    let mut number = fault;
+    let mut at = line;
+    let mut rounds = 0;
+    while 0 < took {
+        let r = one_round(parts, rows, first, n, flags, number, at, state);
+        let marks = r.flags;
+        flags = marks;
+        took = r.took;
+        number = r.fault;
+        at = r.line;
+        rounds += 1;
+    }
+    Outcome {
+        fault: number,
+        line: at,
+        rounds,
+    }
+}

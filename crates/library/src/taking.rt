@@ -1,0 +1,100 @@
+// A module in turn: placed, and in a round visited. A refused walk stays as it is.
+use crate::modules::module_cells;
+use crate::modules::row_line;
+use crate::modules::wants;
+use placing::place;
+ghost use Prim.Native.Nat.{_<_, _≤_};
+ghost use lib.ListN.{length};
+ghost use Rattle.rules.specs.Placing.{externals};
+ghost use Rattle.tables.specs.Tables.{moduleIn};
+ghost use Rattle.state.specs.Good.{Good};
+ghost use Rattle.library.specs.Searching.{PlacedRow, Visited};
+
+// A refusal's number and line, 0 where there is none.
+pub struct Told {
+    pub fault: u64,
+    pub line: u64,
+}
+
+// Places the module of a row.
+pub fn place_row(
+    parts: &[u64],
+    rows: &[u64],
+    row: usize,
+    fault: u64,
+    line: u64,
+    state: &mut [u64],
+) -> Told
+    requires { ⌜ row < 131072 ⌝ }
+    requires { ⌜ length (externals (moduleIn (now parts) (now rows) row)) ≤ 64 ⌝ }
+    requires { ⌜ Good (now state) ⌝ }
+    ensures { λ r. ⌜ PlacedRow (moduleIn (now (parts .entry)) (now (rows .entry)) row) fault line (now (state .entry)) r (now (state .exit)) ⌝ }
+{
+    if fault != 0 {
+        return Told { fault, line };
+    }
+    let number = place(module_cells(parts, rows, row), state);
+    if number == 0 {
+        return Told { fault: 0, line: 0 };
+    }
+    Told {
+        fault: number,
+        line: row_line(rows, row),
+    }
+}
+
+// A visit of a round: whether the module is taken now, 1 if it was taken in this visit, and the refusal.
+pub struct Turn {
+    pub flag: bool,
+    pub took: usize,
+    pub fault: u64,
+    pub line: u64,
+}
+
+// Takes the module of a row if it is not taken yet, and one of its entries is undefined.
+pub fn visit(
+    parts: &[u64],
+    rows: &[u64],
+    row: usize,
+    flag: bool,
+    fault: u64,
+    line: u64,
+    state: &mut [u64],
+) -> Turn
+    requires { ⌜ row < 131072 ⌝ }
+    requires { ⌜ length (externals (moduleIn (now parts) (now rows) row)) ≤ 64 ⌝ }
+    requires { ⌜ Good (now state) ⌝ }
+    ensures { λ r. ⌜ Visited (moduleIn (now (parts .entry)) (now (rows .entry)) row) flag fault line (now (state .entry)) r (now (state .exit)) ⌝ }
+{
+    if flag {
+        return Turn {
+            flag: true,
+            took: 0,
+            fault,
+            line,
+        };
+    }
+    if fault != 0 {
+        return Turn {
+            flag: false,
+            took: 0,
+            fault,
+            line,
+        };
+    }
+    if !wants(module_cells(parts, rows, row), state) {
+        return Turn {
+            flag: false,
+            took: 0,
+            fault,
+            line,
+        };
+    }
+    let t = place_row(parts, rows, row, fault, line, state);
+    Turn {
+        flag: true,
+        took: 1,
+        fault: t.fault,
+        line: t.line,
+    }
+}
