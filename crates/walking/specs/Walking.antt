@@ -1,5 +1,5 @@
 -- How the walk over the rows says what it did.
-use Prim.Native.Nat.{ℕ, _+_, _≤_}
+use Prim.Native.Nat.{ℕ, _+_, _-_, _≤_}
 use mathlib.Core.Bool.{Bool, cond}
 use mathlib.Core.List.{List}
 use mathlib.Core.Path.{_≡_}
@@ -9,6 +9,7 @@ use Rattle.rules.specs.Load.{Walk, Progress, walkItem, walkItems, testSection}
 use Rattle.tables.specs.Tables.{kindIn, freeRow, sectionRow, moduleIn, sectionIn}
 use Rattle.state.specs.Good.{Good}
 use Rattle.library.specs.Searching.{Agrees}
+use Rattle.library.specs.declared.taking.Told.{Told}
 use Rattle.walking.specs.declared.Walked.{Walked}
 
 -- what a row does to the walk: a free module is placed, a section searched; a member counts with its section
@@ -16,6 +17,10 @@ unfoldable pub rowStep : List ℕ → List ℕ → ℕ → Progress → Progress
 rowStep parts rows i p =
     cond (eqb (kindIn rows i) freeRow) (walkItem p (free (moduleIn parts rows i)))
     (cond (eqb (kindIn rows i) sectionRow) (walkItem p (sectionIn parts rows i)) p)
+
+-- the test of a section, by any walk, whatever its cells
+pub record TestedSection (line : ℕ) (ms : List Module) (fault at : ℕ) (r : Told) : Type 0 where
+  pub does : (w : Walk) (cells : List ℕ) → Agrees w fault at cells → Agrees (testSection line ms w) (r .fault) (r .line) cells
 
 -- the walk's numbers and state, and its rounds
 pub record Goes (p : Progress) (fault line rounds : ℕ) (cells : List ℕ) : Type 0 where

@@ -1,14 +1,100 @@
 // The walk over what a file holds: the rows in order, free modules placed, sections tested and searched.
-use library::search::search;
+use library::modules::row_line;
+use library::rounds::search;
 use library::taking::Told;
 use library::taking::place_row;
 use parts::heads::larger;
 use repeats::repeats;
 use tables::cell;
+ghost use Prim.Native.Nat.{_+_, _-_, _*_, _≤_, _<_};
+ghost use lib.ListN.{length};
+ghost use Rattle.rules.specs.Reading.{free};
+ghost use Rattle.rules.specs.Load.{walkItem, walkItems};
+ghost use Rattle.rules.proofs.TestLaws.{Every};
+ghost use Rattle.rules.proofs.ReadingLaws.{ModuleSound, ItemSound};
+ghost use Rattle.tables.specs.Tables.{lineIn, moduleIn, modulesIn, sectionIn, itemsFromRow, itemsIn};
+ghost use Rattle.state.specs.Good.{Good};
+ghost use Rattle.walking.specs.Walking.{rowStep, TestedSection, Went};
 
-// A refusal's number and line, 0 where there is none, and the rounds of the searches.
+// A refusal's number and line, 0 where there is none, and the rounds of the searches so far.
 pub struct Walked {
     pub fault: u64,
     pub line: u64,
     pub rounds: usize,
+}
+
+// 13 at the section's LSB line, where a name is an entry twice in the rows from `first` to the one before `last`.
+fn test_section(
+    parts: &[u64],
+    rows: &[u64],
+    row: usize,
+    first: usize,
+    last: usize,
+    fault: u64,
+    line: u64,
+) -> Told
+    requires { ⌜ (first ≤ last) × (last ≤ 131072) ⌝ }
+    requires { ⌜ row < 131072 ⌝ }
+    ensures { λ r. ⌜ TestedSection (lineIn (now (rows .entry)) row) (modulesIn (now (parts .entry)) (now (rows .entry)) first (last - first)) fault line r ⌝ }
+{
+    if fault != 0 {
+        return Told { fault, line };
+    }
+    if repeats(parts, rows, first, last) {
+        return Told {
+            fault: 13,
+            line: row_line(rows, row),
+        };
+    }
+    Told { fault, line }
+}
+
+// A section: tested, then searched.
+fn walk_section(
+    parts: &[u64],
+    rows: &[u64],
+    row: usize,
+    fault: u64,
+    line: u64,
+    rounds: usize,
+    state: &mut [u64],
+) -> Walked
+    requires { ⌜ (row < 131072) × (rounds ≤ 100000000) ⌝ }
+    requires { ⌜ ItemSound (sectionIn (now parts) (now rows) row) ⌝ }
+    requires { ⌜ Good (now state) ⌝ }
+    ensures { λ r. ⌜ Went (λ p. walkItem p (sectionIn (now (parts .entry)) (now (rows .entry)) row)) 257 fault line rounds (now (state .entry)) r (now (state .exit)) ⌝ }
+{
+    let body = cell(rows, 2 * row + 1);
+    let first = (body % 65536) as usize;
+    let last = larger(first, (body / 65536) as usize);
+    let t = test_section(parts, rows, row, first, last, fault, line);
+    let o = search(parts, rows, first, last - first, t.fault, t.line, state);
+    Walked {
+        fault: o.fault,
+        line: o.line,
+        rounds: rounds + o.rounds,
+    }
+}
+
+// A free module: placed.
+fn walk_free(
+    parts: &[u64],
+    rows: &[u64],
+    row: usize,
+    fault: u64,
+    line: u64,
+    rounds: usize,
+    state: &mut [u64],
+) -> Walked
+    requires { ⌜ row < 131072 ⌝ }
+    requires { ⌜ ModuleSound (moduleIn (now parts) (now rows) row) ⌝ }
+    requires { ⌜ Good (now state) ⌝ }
+    ensures { λ r. ⌜ Went (λ p. walkItem p (free (moduleIn (now (parts .entry)) (now (rows .entry)) row))) 257 fault line rounds (now (state .entry)) r (now (state .exit)) ⌝ }
+{
+    let t = place_row(parts, rows, row, fault, line, state);
+    Walked {
+        fault: t.fault,
+        line: t.line,
+        rounds,
+    }
 }
