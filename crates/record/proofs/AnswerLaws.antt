@@ -1,4 +1,4 @@
--- The whole line: what is wanted of it, whether it has a field, and its bytes.
+-- The whole line: its bytes, whether it has a field, and what is wanted of it.
 -- Assumes nothing.
 use Prim.Native.Nat.{ℕ, _+_, _-_, _≤_, _<_}
 use native.Mathlib.Omega.{arith}
@@ -62,21 +62,22 @@ module _ (front size : ℕ) (a : LineAnswer) where
     pub byte-only : OneOf (1 ∷ 2 ∷ 3 ∷ 4 ∷ 5 ∷ 6 ∷ 7 ∷ 8 ∷ 9 ∷ 10 ∷ []) (tagOf the-type a) → {o : LineAnswer} → o ≡ Bad (fault IllegalByte (front + 1)) → o ≡ testBytes front size a
     byte-only t p = byte-first (no-fault front a t) p
 
--- ---- fields or none
+-- ---- the whole line
 
-module _ (w : Wanted) {at stop s : ℕ} {l : List ℕ} (h : InFile at stop l) (e : s ≡ fieldStart at stop l)
-    {front : ℕ} (n : front ≡ legalFront 80 (part at stop l)) where
+module _ (w : Wanted) {at stop : ℕ} {l : List ℕ} (h : InFile at stop l) where
   abbrev Says : LineAnswer → Type 0
-  Says a = a ≡ lineAnswer w (part at stop l)
+  Says a = a ≡ lineOf w (endColumn at stop) (lineFields at stop l)
 
-  whole : {a o : LineAnswer} → a ≡ testBytes front (stop - at) o → o ≡ lineOf w (endColumn at stop) (lineFields at stop l) → Says a
+  module _ {s : ℕ} (e : s ≡ fieldStart at stop l) where
+    pub line-blank : s ≡ stop → Says Blank
+    unfolding fieldsOf lineOf
+    line-blank g = rw (no-field at stop s l h e g 1)
+
+    pub line-fields : s < stop → {a : LineAnswer} → a ≡ fieldsSay w (endColumn at stop) (lineFields at stop l) → Says a
+    unfolding fieldsOf lineOf
+    line-fields g p = p ∙ rw (field-found at stop s l h e g _ refl .fields 1)
+
+  pub line-whole : {front : ℕ} {a o : LineAnswer} → front ≡ legalFront 80 (part at stop l) → Says o → a ≡ testBytes front (stop - at) o →
+      a ≡ lineAnswer w (part at stop l)
   unfolding lineAnswer
-  whole p q = p ∙ rw (length-part at stop l (h .size), ← n, ← q)
-
-  pub line-blank : s ≡ stop → {a : LineAnswer} → a ≡ testBytes front (stop - at) Blank → Says a
-  unfolding fieldsOf lineOf
-  line-blank g p = whole p (rw (no-field at stop s l h e g 1))
-
-  pub line-says : s < stop → {a o : LineAnswer} → a ≡ testBytes front (stop - at) o → o ≡ fieldsSay w (endColumn at stop) (lineFields at stop l) → Says a
-  unfolding fieldsOf lineOf
-  line-says g p q = whole p (q ∙ rw (field-found at stop s l h e g _ refl .fields 1))
+  line-whole n q p = p ∙ rw (length-part at stop l (h .size), ← n, ← q)

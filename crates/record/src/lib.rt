@@ -17,7 +17,7 @@ use rules::line::Wanted;
 use text::fields::field_start;
 use text::lines::legal_front;
 ghost use mathlib.Core.Path.{_≡_};
-ghost use Rattle.rules.specs.Line.{fieldsSay, testBytes, lineAnswer};
+ghost use Rattle.rules.specs.Line.{lineOf, testBytes, lineAnswer};
 ghost use Rattle.text.specs.Scan.{part, InFile};
 ghost use Rattle.record.specs.Fitting.{endColumn, lineFields};
 
@@ -27,11 +27,14 @@ mod headers;
 mod records;
 mod shapes;
 
-// What the fields of a line say.
+// What the fields of the line say. A line with no field is skipped.
 fn fields_say(file: &[u8], at: usize, stop: usize, wanted: Wanted) -> LineAnswer
     requires { ⌜ InFile at stop (now file) ⌝ }
-    ensures { λ r. ⌜ r ≡ fieldsSay wanted (endColumn at stop) (lineFields at stop (now (file .entry))) ⌝ }
+    ensures { λ r. ⌜ r ≡ lineOf wanted (endColumn at stop) (lineFields at stop (now (file .entry))) ⌝ }
 {
+    if field_start(file, at, stop) == stop {
+        return LineAnswer::Blank;
+    }
     match wanted {
         Wanted::AnyHeader => header_line(file, at, stop),
         Wanted::OpeningTitle => read_as(file, at, stop, OPENING),
@@ -70,8 +73,5 @@ pub fn line_answer(file: &[u8], at: usize, stop: usize, wanted: Wanted) -> LineA
     ensures { λ r. ⌜ r ≡ lineAnswer wanted (part at stop (now (file .entry))) ⌝ }
 {
     let front = legal_front(file, at, stop);
-    if field_start(file, at, stop) == stop {
-        return test_bytes(front, stop - at, LineAnswer::Blank);
-    }
     test_bytes(front, stop - at, fields_say(file, at, stop, wanted))
 }
