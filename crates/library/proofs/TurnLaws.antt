@@ -7,17 +7,18 @@ use mathlib.Core.Logic.{_≢_}
 use mathlib.Core.Path.{_≡_, refl, sym, ap, ap₂, subst, _∙_}
 use lib.ListN.{length}
 use lib.Dec.{eqb}
-use borrow.Author.Tests.{eq-eqb, ne-eqb, not-true, not-false}
+use borrow.Author.Tests.{eq-eqb, ne-eqb, eqb-true, eqb-false, not-true, not-false}
 use Rattle.rules.specs.Reading.{Module, moduleAt}
 use Rattle.rules.specs.State.{State}
 use Rattle.rules.specs.Placing.{externals, externalsIn, placingFault, placed}
 use Rattle.rules.specs.Load.{Walk, walking, refusedAt, accepted, tryPlace, place, wanted, wants}
+use Rattle.rules.proofs.BoolLaws.{never}
 use Rattle.tables.specs.Tables.{partsOf, lineIn, startIn, endIn, cellsIn, moduleIn}
 use Rattle.state.specs.Layout.{decode}
 use Rattle.state.specs.Good.{Good}
 use Rattle.placing.specs.Effects.{Tried}
 use Rattle.placing.proofs.PlaceLaws.{any-line}
-use Rattle.library.specs.Searching.{Agrees, PlacedRow, Turned, Visited}
+use Rattle.library.specs.Searching.{Agrees, PlacedRow, takes, Turned, Visited}
 use Rattle.library.specs.declared.taking.Told.{Told}
 use Rattle.library.specs.declared.taking.Turn.{Turn}
 use Rattle.library.proofs.ModuleLaws.{wanted-is}
@@ -102,44 +103,48 @@ turn-is {m} {flag} {w} {r} {after} b d e f p q a =
       agrees = subst (λ v. Agrees v (r .fault) (r .line) after) (sym (ap₂ (λ x y. cond (x || not y) w (place w m)) e f)) a;
     }
 
-module _ {m : Module} {fault line : ℕ} {before : List ℕ} where
-  module _ (g : Good before) where
-    pub visit-taken : {flag : Bool} → flag ≡ true →
-        Visited m flag fault line before (record { flag = true; took = 0; fault = fault; line = line }) before
-    visit-taken e =
-        record { good = g; most = omega arith; does = λ w a. turn-is true (wants w m) e refl refl refl a }
+-- what a walk wants, in the words of the code
+wants-is : {w : Walk} {fault line : ℕ} {before : List ℕ} → Agrees w fault line before → (m : Module) →
+    wants w m ≡ (eqb fault 0 && wanted (decode before) m)
+unfolding wants
+wants-is {w} {fault} {line} {before} a m = go (eqb fault 0) refl
+  where
+    go : (b : Bool) → eqb fault 0 ≡ b → (accepted w && wanted (w .state) m) ≡ (b && wanted (decode before) m)
+    go true e = rw (goes-on a (eqb-true fault 0 e)) (ap (λ s. wanted s m) (sym (a .state-is (eqb-true fault 0 e))))
+    go false e = rw (stands a (eqb-false fault 0 e))
 
-    module _ {flag : Bool} (e : flag ≡ false) where
-      -- a module that no walk wants
-      left-alone : ((w : Walk) → Agrees w fault line before → wants w m ≡ false) →
-          Visited m flag fault line before (record { flag = false; took = 0; fault = fault; line = line }) before
-      left-alone f =
-          record { good = g; most = omega arith; does = λ w a. turn-is false false e (f w a) refl refl a }
+module _ {m : Module} {flag : Bool} {fault line : ℕ} {before : List ℕ} {r : Bool} (q : r ≡ takes flag fault before m) where
+  pub visit-left : Good before → not r ≡ true →
+      Visited m flag fault line before (record { flag = flag; took = 0; fault = fault; line = line }) before
+  unfolding takes
+  visit-left g n =
+      record {
+        good = g;
+        most = omega arith;
+        does = λ w a. go flag (eqb fault 0 && wanted (decode before) m) refl (wants-is a m) (sym q ∙ not-true r n) a;
+      }
+    where
+      go : (b d : Bool) → flag ≡ b → {w : Walk} → wants w m ≡ d → (not b && d) ≡ false → Agrees w fault line before →
+          Turned m flag w (record { flag = flag; took = 0; fault = fault; line = line }) before
+      go true d e f p a = turn-is true d e f e refl a
+      go false true e f p a = never refl p
+      go false false e f p a = turn-is false false e f e refl a
 
-      pub visit-refused : fault ≢ 0 →
-          Visited m flag fault line before (record { flag = false; took = 0; fault = fault; line = line }) before
-      unfolding wants
-      visit-refused n = left-alone (λ w a. rw (stands a n))
-
-      pub visit-unwanted : fault ≡ 0 → {r : Bool} → r ≡ wanted (decode before) m → not r ≡ true →
-          Visited m flag fault line before (record { flag = false; took = 0; fault = fault; line = line }) before
-      unfolding wants
-      visit-unwanted z {r} q n =
-          left-alone (λ w a. rw (goes-on a z, sym (q ∙ ap (λ s. wanted s m) (a .state-is z)) ∙ not-true r n))
-
-  pub visit-placed : {flag : Bool} → flag ≡ false → fault ≡ 0 → {r : Bool} → r ≡ wanted (decode before) m → not r ≡ false →
-      {t : Told} {after : List ℕ} → PlacedRow m fault line before t after →
+  pub visit-placed : not r ≡ false → {t : Told} {after : List ℕ} → PlacedRow m fault line before t after →
       Visited m flag fault line before (record { flag = true; took = 1; fault = t .fault; line = t .line }) after
-  unfolding wants
-  visit-placed e z {r} q n p =
+  unfolding takes
+  visit-placed n {t} {after} p =
       record {
         good = p .good;
         most = omega arith;
         does =
             λ w a.
-            turn-is false true e
-            (rw (goes-on a z, sym (q ∙ ap (λ s. wanted s m) (a .state-is z)) ∙ not-false r n))
-            refl
-            refl
-            (p .does w a);
+            go flag (eqb fault 0 && wanted (decode before) m) refl (wants-is a m) (sym q ∙ not-false r n) (p .does w a);
       }
+    where
+      go : (b d : Bool) → flag ≡ b → {w : Walk} → wants w m ≡ d → (not b && d) ≡ true →
+          Agrees (place w m) (t .fault) (t .line) after →
+          Turned m flag w (record { flag = true; took = 1; fault = t .fault; line = t .line }) after
+      go true d e f h a = never h refl
+      go false true e f h a = turn-is false true e f refl refl a
+      go false false e f h a = never h refl

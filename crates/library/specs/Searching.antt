@@ -1,6 +1,6 @@
 -- How the search of a section says what it did: the walk of the definitions, beside a fault, a line and state memory.
 use Prim.Native.Nat.{ℕ, suc, _+_, _≤_, _<_}
-use mathlib.Core.Bool.{Bool, true, false, cond, not, _||_}
+use mathlib.Core.Bool.{Bool, true, false, cond, not, _&&_, _||_}
 use mathlib.Core.List.{List}
 use mathlib.Core.Path.{_≡_}
 use lib.ListN.{length, getD}
@@ -8,7 +8,7 @@ use lib.Dec.{eqb}
 use Rattle.rules.specs.Reading.{Module}
 use Rattle.rules.specs.Placing.{externals}
 use Rattle.rules.specs.Search.{Places, Sweep, sweepOf, Found, found, sweep, round, rounds}
-use Rattle.rules.specs.Load.{Walk, wants, place, searched}
+use Rattle.rules.specs.Load.{Walk, wanted, wants, place, searched}
 use Rattle.tables.specs.Tables.{moduleIn}
 use Rattle.state.specs.Layout.{decode}
 use Rattle.state.specs.Good.{Good}
@@ -23,15 +23,21 @@ pub record Agrees (w : Walk) (fault line : ℕ) (cells : List ℕ) : Type 0 wher
   pub line-is : line ≡ w .line
   pub state-is : fault ≡ 0 → decode cells ≡ w .state
 
--- the modules of n rows from row i on have no more externals than the reading lets pass
-abbrev pub Few : List ℕ → List ℕ → ℕ → ℕ → Type 0
-Few parts rows i n = (k : ℕ) → k < n → length (externals (moduleIn parts rows (i + k))) ≤ 64
+-- n rows from row `first` on, within the limits of the reading
+pub record Section (parts rows : List ℕ) (first n : ℕ) : Type 0 where
+  pub low : first ≤ 65535
+  pub short : n ≤ 256
+  pub few : (i : ℕ) → i < n → length (externals (moduleIn parts rows (first + i))) ≤ 64
 
 -- ---- a module in turn
 
 pub record PlacedRow (m : Module) (fault line : ℕ) (before : List ℕ) (r : Told) (after : List ℕ) : Type 0 where
   pub good : Good after
   pub does : (w : Walk) → Agrees w fault line before → Agrees (place w m) (r .fault) (r .line) after
+
+-- is the module in turn: it is not taken, and the walk goes on and wants it
+unfoldable pub takes : Bool → ℕ → List ℕ → Module → Bool
+takes flag fault cells m = not flag && (eqb fault 0 && wanted (decode cells) m)
 
 -- a visit by a walk: whether the module is taken afterwards, how many were taken now, and how the walk goes on
 pub record Turned (m : Module) (flag : Bool) (w : Walk) (r : Turn) (after : List ℕ) : Type 0 where

@@ -1,11 +1,8 @@
 // The rounds of a section's search. Its modules are those of n rows from row `first` on.
 use crate::taking::visit;
-ghost use Prim.Native.Nat.{_≤_};
-ghost use mathlib.Core.Path.{_≡_};
-ghost use lib.ListN.{length};
 ghost use Rattle.tables.specs.Tables.{modulesIn};
 ghost use Rattle.state.specs.Good.{Good};
-ghost use Rattle.library.specs.Searching.{Few, Rounded, Sought};
+ghost use Rattle.library.specs.Searching.{Section, Rounded, Sought};
 
 // After a round: the flags of the modules taken, how many this round took, and the refusal.
 pub struct Round {
@@ -15,6 +12,7 @@ pub struct Round {
     pub line: u64,
 }
 
+// Visits the modules in their order.
 fn one_round(
     parts: &[u64],
     rows: &[u64],
@@ -25,9 +23,7 @@ fn one_round(
     line: u64,
     state: &mut [u64],
 ) -> Round
-    requires { ⌜ first ≤ 65535 ⌝ }
-    requires { ⌜ n ≤ 256 ⌝ }
-    requires { ⌜ Few (now parts) (now rows) first n ⌝ }
+    requires { ⌜ Section (now parts) (now rows) first n ⌝ }
     requires { ⌜ Good (now state) ⌝ }
     ensures { λ r. ⌜ Rounded (modulesIn (now (parts .entry)) (now (rows .entry)) first n) flags fault line (now (state .entry)) r (now (state .exit)) ⌝ }
 {
@@ -69,9 +65,7 @@ pub fn search(
     line: u64,
     state: &mut [u64],
 ) -> Outcome
-    requires { ⌜ first ≤ 65535 ⌝ }
-    requires { ⌜ n ≤ 256 ⌝ }
-    requires { ⌜ Few (now parts) (now rows) first n ⌝ }
+    requires { ⌜ Section (now parts) (now rows) first n ⌝ }
     requires { ⌜ Good (now state) ⌝ }
     ensures { λ r. ⌜ Sought (modulesIn (now (parts .entry)) (now (rows .entry)) first n) fault line (now (state .entry)) r (now (state .exit)) ⌝ }
 {

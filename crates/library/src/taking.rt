@@ -4,11 +4,12 @@ use crate::modules::row_line;
 use crate::modules::wants;
 use placing::place;
 ghost use Prim.Native.Nat.{_<_, _≤_};
+ghost use mathlib.Core.Path.{_≡_};
 ghost use lib.ListN.{length};
 ghost use Rattle.rules.specs.Placing.{externals};
 ghost use Rattle.tables.specs.Tables.{moduleIn};
 ghost use Rattle.state.specs.Good.{Good};
-ghost use Rattle.library.specs.Searching.{PlacedRow, Visited};
+ghost use Rattle.library.specs.Searching.{PlacedRow, takes, Visited};
 
 // A refusal's number and line, 0 where there is none.
 pub struct Told {
@@ -51,7 +52,22 @@ pub struct Turn {
     pub line: u64,
 }
 
-// Takes the module of a row if it is not taken yet, and one of its entries is undefined.
+// Is the module of a row to be taken: not taken yet, in a walk that goes on, and with an undefined entry?
+fn is_due(parts: &[u64], rows: &[u64], row: usize, flag: bool, fault: u64, state: &[u64]) -> bool
+    requires { ⌜ row < 131072 ⌝ }
+    requires { ⌜ Good (now state) ⌝ }
+    ensures { λ r. ⌜ r ≡ takes flag fault (now (state .entry)) (moduleIn (now (parts .entry)) (now (rows .entry)) row) ⌝ }
+{
+    if flag {
+        return false;
+    }
+    if fault != 0 {
+        return false;
+    }
+    wants(module_cells(parts, rows, row), state)
+}
+
+// Takes the module of a row, if it is due.
 pub fn visit(
     parts: &[u64],
     rows: &[u64],
@@ -66,25 +82,9 @@ pub fn visit(
     requires { ⌜ Good (now state) ⌝ }
     ensures { λ r. ⌜ Visited (moduleIn (now (parts .entry)) (now (rows .entry)) row) flag fault line (now (state .entry)) r (now (state .exit)) ⌝ }
 {
-    if flag {
+    if !is_due(parts, rows, row, flag, fault, state) {
         return Turn {
-            flag: true,
-            took: 0,
-            fault,
-            line,
-        };
-    }
-    if fault != 0 {
-        return Turn {
-            flag: false,
-            took: 0,
-            fault,
-            line,
-        };
-    }
-    if !wants(module_cells(parts, rows, row), state) {
-        return Turn {
-            flag: false,
+            flag,
             took: 0,
             fault,
             line,

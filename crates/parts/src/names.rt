@@ -1,4 +1,4 @@
-// Entries of one name.
+// Entries of one name, for test 13.
 use crate::heads::is_entry;
 use state::table::is_defined;
 ghost use Prim.Native.Nat.{_+_, _-_, _<_, _≤_};

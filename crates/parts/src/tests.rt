@@ -1,4 +1,4 @@
-// The tests of a module that only read: its length, its external numbers, the range of its entries, its entries' names.
+// What the tests 9, 11 and 12 ask of a module's parts.
 use crate::heads::block_end;
 use crate::heads::external_in;
 use crate::heads::is_bad;

@@ -1,4 +1,4 @@
-// Placing a module: the tests 9 to 14 in their order, and the effect on the state as they pass.
+// Placing a module: the tests 9 to 14 in their order, and its effect on the state as they pass.
 mod symbols;
 mod words;
 

@@ -18,7 +18,7 @@ ghost use Rattle.parts.specs.Cells.{partsFrom};
 ghost use Rattle.parts.specs.Passes.{overRange, namesIn, repeated};
 ghost use Rattle.placing.specs.Effects.{EnteredPart, Entered, Mentioned};
 
-// The fault where the table is full at cell `at`: a second entry of one name from there on goes first.
+// The fault where the table is full at cell `at`: 13 goes before 14, so the entries from there on are looked at once more.
 fn full_fault(parts: &[u64], at: usize, state: &[u64]) -> u64
     requires { ⌜ at ≤ length (now parts) ⌝ }
     requires { ⌜ Good (now state) ⌝ }

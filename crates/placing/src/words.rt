@@ -1,4 +1,5 @@
-// The code words of a module: first all of them without their references, then the references.
+// The code words of a module. They are put plain first, since test 10 comes before the symbols join the table; when these
+// have their places, the words that refer to an external are put again.
 use parts::heads::address;
 use parts::heads::argument;
 use state::words::is_placed;

@@ -19,31 +19,31 @@ abbrev μ-loop : tie.MeasureT-loop
 μ-loop parts rows first n fault line state₀ marks₀ took₀ number₀ at₀ i₀ state marks took number at i = n - i
 
 loop-holds : tie.Need-loop-holds Inv-loop μ-loop
-loop-holds c = let a = c .before .before .before .args in (omega arith, c .before .before .before .pre .1 .1 .1, refl, search needs, omega arith, λ w g. swept-start (a .parts .now) (a .rows .now) (a .first) (a .n) (a .flags) w g)
+loop-holds c = let a = c .before .before .before .args in (omega arith, c .before .before .before .pre .1, refl, search needs, omega arith, λ w g. swept-start (a .parts .now) (a .rows .now) (a .first) (a .n) (a .flags) w g)
 
 add-visit : tie.Need-add-visit Inv-loop μ-loop
-add-visit c = omega (arith, c .before .before .before .before .before .pre .0, c .before .before .before .before .before .pre .1 .0)
+add-visit c = omega (arith, c .before .before .before .before .before .pre .0 .low, c .before .before .before .before .before .pre .0 .short)
 
 array-read-visit : tie.Need-array-read-visit Inv-loop μ-loop
-array-read-visit c = omega (arith, c .before .before .before .before .before .pre .1 .0)
+array-read-visit c = omega (arith, c .before .before .before .before .before .pre .0 .short)
 
 visit-requires : tie.Need-visit-requires Inv-loop μ-loop
-visit-requires c κs = let l = c .before .before .loop in let p = c .before .before .before .before .before .before .pre in (omega (arith, p .0, p .1 .0), (p .1 .1 .0 (l .i) (c .before .loop-test .taken), l .inv .1))
+visit-requires c κs = let l = c .before .before .loop in let p = c .before .before .before .before .before .before .pre in (omega (arith, p .0 .low, p .0 .short), (p .0 .few (l .i) (c .before .loop-test .taken), l .inv .1))
 
 array-write-marks : tie.Need-array-write-marks Inv-loop μ-loop
-array-write-marks c = omega (arith, c .before .before .before .before .before .before .before .before .before .pre .1 .0, c .before .before .before .before .loop-test .taken)
+array-write-marks c = omega (arith, c .before .before .before .before .before .before .before .before .before .pre .0 .short, c .before .before .before .before .loop-test .taken)
 
 add-took : tie.Need-add-took Inv-loop μ-loop
-add-took c = omega (arith, c .before .before .before .before .before .before .before .before .before .before .pre .1 .0, c .before .before .before .visit .ensures .most, c .before .before .before .before .before .before .loop .inv .4, c .before .before .before .before .before .loop-test .taken)
+add-took c = omega (arith, c .before .before .before .before .before .before .before .before .before .before .pre .0 .short, c .before .before .before .visit .ensures .most, c .before .before .before .before .before .before .loop .inv .4, c .before .before .before .before .before .loop-test .taken)
 
 add-i : tie.Need-add-i Inv-loop μ-loop
-add-i c = omega (arith, c .before .before .before .before .before .before .before .before .before .before .pre .1 .0, c .before .before .before .before .before .loop-test .taken)
+add-i c = omega (arith, c .before .before .before .before .before .before .before .before .before .before .pre .0 .short, c .before .before .before .before .before .loop-test .taken)
 
 loop-less : tie.Need-loop-less Inv-loop μ-loop
 loop-less c = omega (arith, c .before .before .before .before .before .loop-test .taken)
 
 loop-again : tie.Need-loop-again Inv-loop μ-loop
-loop-again c = let l = c .before .before .before .before .before .before .loop in let a = c .before .before .before .before .before .before .before .before .before .before .args in let v = c .before .before .before .visit .ensures in let b = c .before .before .before .before .before .loop-test .taken in (omega arith, v .good, omega (arith, v .good .long, l .inv .1 .long, l .inv .2), simp length-set (l .inv .3), omega (arith, v .most, l .inv .4), λ w g. swept-next (a .parts .now) (a .rows .now) (a .first) (a .n) (l .inv .5 w g) b (omega (arith, c .before .before .before .before .before .before .before .before .before .before .pre .1 .0, l .inv .3)) v)
+loop-again c = let l = c .before .before .before .before .before .before .loop in let a = c .before .before .before .before .before .before .before .before .before .before .args in let v = c .before .before .before .visit .ensures in let b = c .before .before .before .before .before .loop-test .taken in (omega arith, v .good, omega (arith, v .good .long, l .inv .1 .long, l .inv .2), simp length-set (l .inv .3), omega (arith, v .most, l .inv .4), λ w g. swept-next (a .parts .now) (a .rows .now) (a .first) (a .n) (l .inv .5 w g) b (omega (arith, c .before .before .before .before .before .before .before .before .before .before .pre .0 .short, l .inv .3)) v)
 
 same-length : tie.Need-same-length Inv-loop μ-loop
 same-length c = c .before .loop .inv .2

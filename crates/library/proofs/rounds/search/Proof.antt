@@ -19,13 +19,13 @@ abbrev μ-loop : tie.MeasureT-loop
 μ-loop parts rows first n fault line state₀ flags₀ took₀ number₀ at₀ rounds₀ state flags took number at rounds = n - count (setOf flags) n + min 1 took
 
 loop-holds : tie.Need-loop-holds Inv-loop μ-loop
-loop-holds c = let a = c .before .before .before .args in (c .before .before .before .pre .1 .1 .1, refl, refl, omega arith, λ w g. seek-start (modulesIn (a .parts .now) (a .rows .now) (a .first) (a .n)) 256 w g)
+loop-holds c = let a = c .before .before .before .args in (c .before .before .before .pre .1, refl, refl, omega arith, λ w g. seek-start (modulesIn (a .parts .now) (a .rows .now) (a .first) (a .n)) 256 w g)
 
 one-round-requires : tie.Need-one-round-requires Inv-loop μ-loop
-one-round-requires c κs = let p = c .before .before .before .before .before .before .pre in (p .0, (p .1 .0, (p .1 .1 .0, c .before .before .loop .inv .0)))
+one-round-requires c κs = let p = c .before .before .before .before .before .before .pre in (p .0, c .before .before .loop .inv .0)
 
 add-rounds : tie.Need-add-rounds Inv-loop μ-loop
-add-rounds c = let l = c .before .before .before .before .before .before .loop in let a = c .before .before .before .before .before .before .before .before .before .before .args in omega (arith, l .inv .3, count-most (setOf (l .flags)) (a .n), c .before .before .before .before .before .before .before .before .before .before .pre .1 .0)
+add-rounds c = let l = c .before .before .before .before .before .before .loop in let a = c .before .before .before .before .before .before .before .before .before .before .args in omega (arith, l .inv .3, count-most (setOf (l .flags)) (a .n), c .before .before .before .before .before .before .before .before .before .before .pre .0 .short)
 
 loop-less : tie.Need-loop-less Inv-loop μ-loop
 loop-less c = let l = c .before .before .before .before .before .before .loop in let a = c .before .before .before .before .before .before .before .before .before .before .args in let q = c .before .before .before .one-round .ensures in let r = c .before .before .before .one-round .result in let more = round-counts (length-modules (a .parts .now) (a .rows .now) (a .first) (a .n)) q in let most = count-most (setOf (r .flags)) (a .n) in omega (arith, more, most, c .before .before .before .before .before .loop-test .taken)
@@ -37,7 +37,7 @@ same-length : tie.Need-same-length Inv-loop μ-loop
 same-length c = c .before .loop .inv .1
 
 returns : tie.Need-returns Inv-loop μ-loop
-returns c = let l = c .before .loop in let a = c .before .before .before .before .before .args in let e = c .loop-test .left in record { good = l .inv .0; most = omega (arith, l .inv .3, count-most (setOf (l .flags)) (a .n), c .before .before .before .before .before .pre .1 .0); rounds-is = λ w g. seek-rounds (modulesIn (a .parts .now) (a .rows .now) (a .first) (a .n)) (l .inv .4 w g) e; agrees = λ w g. seek-agrees (modulesIn (a .parts .now) (a .rows .now) (a .first) (a .n)) (l .inv .4 w g) e }
+returns c = let l = c .before .loop in let a = c .before .before .before .before .before .args in let e = c .loop-test .left in record { good = l .inv .0; most = omega (arith, l .inv .3, count-most (setOf (l .flags)) (a .n), c .before .before .before .before .before .pre .0 .short); rounds-is = λ w g. seek-rounds (modulesIn (a .parts .now) (a .rows .now) (a .first) (a .n)) (l .inv .4 w g) e; agrees = λ w g. seek-agrees (modulesIn (a .parts .now) (a .rows .now) (a .first) (a .n)) (l .inv .4 w g) e }
 
 pub search-spec : {M : Type 1} → statement M
 search-spec =
