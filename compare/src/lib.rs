@@ -7,6 +7,7 @@
 
 pub mod answer;
 pub mod calls;
+pub mod differ;
 #[cfg(feature = "library")]
 pub mod ffi;
 pub mod lent;
