@@ -55,10 +55,11 @@ impl Author {
     }
 
     fn section(&mut self, rng: &mut Rng) -> Draft {
-        let size = match rng.below(100) {
-            0..80 => rng.within(0..=6),
-            80..98 => rng.within(7..=30),
-            _ => rng.within(31..=120),
+        let size = match rng.below(1000) {
+            0..800 => rng.within(0..=6),
+            800..980 => rng.within(7..=30),
+            980..997 => rng.within(31..=120),
+            _ => rng.within(254..=258),
         };
         // Entries first, so that the modules can need each other in any order.
         let entries: Vec<Vec<String>> = (0..size).map(|_| self.entry_names(rng)).collect();
@@ -74,12 +75,12 @@ impl Author {
     }
 
     fn entry_names(&mut self, rng: &mut Rng) -> Vec<String> {
-        let count = *rng.pick(&[0, 1, 1, 1, 1, 2, 3]);
+        let count = if rng.below(1000) < 5 { rng.within(62..=66) } else { *rng.pick(&[0, 1, 1, 1, 1, 2, 3]) };
         (0..count).map(|_| self.entry_name(rng)).collect()
     }
 
     fn external_names(&self, rng: &mut Rng, preferred: &[String]) -> Vec<String> {
-        let count = *rng.pick(&[0, 0, 1, 1, 2, 3, 6]);
+        let count = if rng.below(1000) < 5 { rng.within(62..=66) } else { *rng.pick(&[0, 0, 1, 1, 2, 3, 6]) };
         let mut name = || {
             if !preferred.is_empty() && rng.percent(60) {
                 rng.pick(preferred).clone()
@@ -162,7 +163,7 @@ fn entry_blocks(rng: &mut Rng, entries: &[String]) -> Vec<Draft> {
             if rng.percent(40) {
                 block.line(format!("{name} {} {}", any_number(rng), octal(rng, 0)));
             } else {
-                let value = if rng.percent(1) { 65535 - rng.below(4096) } else { rng.below(300) };
+                let value = if rng.percent(2) { 65535 - rng.below(300) } else { rng.below(300) };
                 block.line(format!("{name} {} {} {}", octal(rng, value), octal(rng, 1), any_number(rng)));
             }
         }

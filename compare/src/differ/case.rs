@@ -112,7 +112,11 @@ pub fn random(rng: &mut Rng) -> Case {
     for _ in 0..rng.within(1..=8) {
         let call = random_call(&mut author, rng);
         // Little can be seen behind a refused load, so most are followed by a reset.
-        let reset = matches!(call, RandomCall::DamagedLoad(_)) && rng.percent(60);
+        let reset = match call {
+            RandomCall::DamagedLoad(_) => rng.percent(85),
+            RandomCall::Load(_) => rng.percent(10),
+            RandomCall::Other(_) => false,
+        };
         steps.push(Step { state_cells: random_length(rng, STATE_CELLS), ..Step::from(call.into_call(rng)) });
         if reset {
             steps.push(Call::Reset.into());
