@@ -47,7 +47,7 @@ mutant() { # label, file under src/, sed expression
     echo "NOT NOTICED  $1"
     missed=$((missed + 1))
   else
-    echo "noticed      $1: $(printf '%s\n' "$said" | grep -m 1 '^FAILED')"
+    echo "noticed      $1: $(printf '%s\n' "$said" | grep -m 1 '^FAILED' || echo 'it did not come back')"
   fi
 }
 
@@ -68,7 +68,7 @@ mutant "last word has no room" linker.rs 's/base + module.length > PROGRAM_WORDS
 mutant "words of no placed block lengthen" reader.rs 's/if count > 0 {/if true {/'
 mutant "section duplicates only within a module" linker.rs 's/if providers.insert(entry.name, place).is_some() {/if providers.insert(entry.name, place) == Some(place) {/'
 mutant "section duplicates told at line 0" linker.rs 's/Refusal::at(Reason::Duplicate, section.line)/Refusal::at(Reason::Duplicate, 0)/'
-mutant "arg beyond the externals by one" linker.rs 's/let externals = 1..=module.externals.len();/let externals = 1..=module.externals.len().max(1);/'
+mutant "last external refused" linker.rs 's/let externals = 1..=module.externals.len();/let externals = 1..module.externals.len();/'
 mutant "table of 257" linker.rs 's/self.table.symbols.len() > MOST_SYMBOLS/self.table.symbols.len() > MOST_SYMBOLS + 1/'
 mutant "forced table of 255" linker.rs 's/self.table.symbols.len() == MOST_SYMBOLS/self.table.symbols.len() >= MOST_SYMBOLS - 1/'
 mutant "BASE of 4096" linker.rs 's/if address > LARGEST_BASE {/if address > LARGEST_BASE + 1 {/'
@@ -81,7 +81,8 @@ mutant "line of 81" text.rs 's/LONGEST_LINE: usize = 80/LONGEST_LINE: usize = 81
 mutant "CR dropped without LF" text.rs "s/None => line,/None => line.strip_suffix(b\"\\\\r\").unwrap_or(line),/"
 mutant "byte 127" text.rs "s/(b' '..=b'~')/(b' '..=0x7f)/"
 mutant "names that begin with a digit" name.rs 's/!text.first()?.is_ascii_uppercase()/!text.first()?.is_ascii_alphanumeric()/'
-mutant "names of seven" name.rs 's/LONGEST: usize = 6/LONGEST: usize = 7/;s/bytes\[2../bytes[8 - text.len().max(6)../;s/2 + text.len()\]/8 - text.len().max(6) + text.len()]/'
+mutant "names of five" name.rs 's/LONGEST: usize = 6/LONGEST: usize = 5/'
+mutant "names with stray bytes" name.rs 's/filter(|name| name.0 == cell)/filter(|name| name.0 <= cell)/'
 mutant "65 entries" reader.rs 's/MOST_ENTRIES: usize = 64/MOST_ENTRIES: usize = 65/'
 mutant "65 externals" reader.rs 's/MOST_EXTERNALS: usize = 64/MOST_EXTERNALS: usize = 65/'
 mutant "257 modules" reader.rs 's/MOST_MODULES: usize = 256/MOST_MODULES: usize = 257/'

@@ -177,17 +177,7 @@ impl<'a> Player<'a> {
                 },
             })?;
         }
-        for call in [
-            Call::Memory,
-            Call::Symbols(Index::FromEnd(-1)),
-            Call::Symbols(Index::FromEnd(0)),
-            Call::Symbols(Index::At(self.junk.next() % MOST_SYMBOLS as u64)),
-            Call::Undefined(Index::At(0)),
-            Call::Undefined(Index::FromEnd(-1)),
-            Call::Undefined(Index::FromEnd(0)),
-            Call::End(Room::FromImage(-1)),
-            Call::End(Room::FromImage(7)),
-        ] {
+        for call in self.last_looks() {
             let shown = format!("{call:?}");
             self.step(&call.into()).map_err(|what| Failure {
                 step: case.steps.len() + 1,
@@ -197,6 +187,20 @@ impl<'a> Player<'a> {
             })?;
         }
         Ok(())
+    }
+
+    /// The calls that read the end state. Now and then they list every symbol, which takes its time.
+    fn last_looks(&mut self) -> Vec<Call> {
+        let any = Index::At(self.junk.next() % MOST_SYMBOLS as u64);
+        let mut indices = vec![Index::At(0), any, Index::FromEnd(-1), Index::FromEnd(0)];
+        if self.junk.percent(2) {
+            indices.extend((0..=MOST_SYMBOLS as u64).map(Index::At));
+        }
+        let mut looks = vec![Call::Memory];
+        looks.extend(indices.iter().copied().map(Call::Symbols));
+        looks.extend(indices.iter().copied().map(Call::Undefined));
+        looks.extend([Call::End(Room::FromImage(-1)), Call::End(Room::FromImage(7))]);
+        looks
     }
 
     fn put_state(&mut self, cells: &[u64]) {
