@@ -110,43 +110,22 @@ pub fn random(rng: &mut Rng) -> Case {
     };
     let mut steps: Vec<Step> = Vec::new();
     for _ in 0..rng.within(1..=8) {
-        let call = random_call(&mut author, rng);
-        // Little can be seen behind a refused load, so most are followed by a reset.
-        let reset = match call {
-            RandomCall::DamagedLoad(_) => rng.percent(85),
-            RandomCall::Load(_) => rng.percent(10),
-            RandomCall::Other(_) => false,
-        };
-        steps.push(Step { state_cells: random_length(rng, STATE_CELLS), ..Step::from(call.into_call(rng)) });
-        if reset {
+        let (call, reset_chance) = random_call(&mut author, rng);
+        steps.push(Step { state_cells: random_length(rng, STATE_CELLS), ..Step::from(call) });
+        if rng.percent(reset_chance) {
             steps.push(Call::Reset.into());
         }
     }
     Case { label: label.into(), state, steps }
 }
 
-enum RandomCall {
-    DamagedLoad(Vec<u8>),
-    Load(Vec<u8>),
-    Other(Call),
-}
-
-impl RandomCall {
-    fn into_call(self, rng: &mut Rng) -> Call {
-        match self {
-            RandomCall::DamagedLoad(file) | RandomCall::Load(file) => {
-                Call::Load { file, work_cells: random_length(rng, WORK_CELLS) }
-            }
-            RandomCall::Other(call) => call,
-        }
-    }
-}
-
-fn random_call(author: &mut Author, rng: &mut Rng) -> RandomCall {
+/// A call, and the chance in percent that a reset follows: little can be seen behind a refused load.
+fn random_call(author: &mut Author, rng: &mut Rng) -> (Call, usize) {
+    let load = |file: Vec<u8>, rng: &mut Rng| Call::Load { file, work_cells: random_length(rng, WORK_CELLS) };
     let call = match rng.below(100) {
-        0..35 => return RandomCall::Load(author.file(rng).laid_out(rng)),
-        35..50 => return RandomCall::DamagedLoad(damaged(&author.file(rng), rng)),
-        50..52 => return RandomCall::Load(odd_file(rng)),
+        0..35 => return (load(author.file(rng).laid_out(rng), rng), 10),
+        35..50 => return (load(damaged(&author.file(rng), rng), rng), 85),
+        50..52 => return (load(odd_file(rng), rng), 50),
         52..66 => Call::Force(random_forced(author, rng)),
         66..74 => Call::Base(random_base(rng)),
         74..76 => Call::Reset,
@@ -156,7 +135,7 @@ fn random_call(author: &mut Author, rng: &mut Rng) -> RandomCall {
         92..98 => Call::End(random_room(rng)),
         _ => Call::Poke(vec![(rng.below(STATE_CELLS), rng.next() % 4)]),
     };
-    RandomCall::Other(call)
+    (call, 0)
 }
 
 /// The right length, and now and then another.
