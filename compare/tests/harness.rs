@@ -2,6 +2,8 @@
 
 use compare::answer::{Reason, Refusal};
 use compare::calls::*;
+use compare::differ::case;
+use compare::differ::rng::Rng;
 use compare::differ::run::{run, Options};
 use compare::lent::Lent;
 use compare::linker::Linker;
@@ -22,6 +24,14 @@ fn the_linker_agrees_with_itself() {
     }
     for number in [0, 1, 2, 3, 4, 12, 14, 15, 16] {
         assert!(summary.seen.others[number] > 0, "no other call was answered {number}");
+    }
+}
+
+#[test]
+fn cases_can_be_made() {
+    for number in 0..10_000 {
+        let case = case::random(&mut Rng::for_case(11, number));
+        assert!(case.state.len() == STATE_CELLS && !case.steps.is_empty());
     }
 }
 

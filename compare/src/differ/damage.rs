@@ -131,6 +131,10 @@ fn damage_draft(draft: &mut Draft, rng: &mut Rng) {
 }
 
 fn damage_fields(fields: &mut Vec<String>, rng: &mut Rng) {
+    if fields.is_empty() {
+        fields.push(rng.pick(ODD_FIELDS).to_string());
+        return;
+    }
     let count = fields.len();
     let at = rng.below(count);
     match rng.below(7) {
