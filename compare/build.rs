@@ -51,6 +51,7 @@ fn link_library(root: &Path) {
         panic!("{} does not exist: run 'rt staticlib linker', or set LNK100_LIB", archive.display());
     }
     println!("cargo:rerun-if-changed={}", archive.display());
+    println!("cargo:rustc-env=LNK100_ARCHIVE={}", archive.display());
     println!("cargo:rustc-link-search=native={}", folder.display());
     println!("cargo:rustc-link-lib=static=linker");
 }

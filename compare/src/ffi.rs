@@ -21,6 +21,9 @@ extern "C" {
     fn lnk100_end(state: *mut u64, state_len: usize, out: *mut u8, out_len: usize) -> EndAnswer;
 }
 
+/// The archive that was linked, so that a report can say whose answers it shows.
+pub const ARCHIVE: &str = env!("LNK100_ARCHIVE");
+
 /// The verified linker.
 #[derive(Clone, Copy, Debug, Default)]
 pub struct Verified;

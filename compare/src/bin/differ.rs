@@ -14,7 +14,7 @@ use compare::differ::run::{run, Found, Options, Summary};
 const USAGE: &str = "usage: differ [CASES] [SEED] [--first N] [--seconds S] [--no-limits] [--trace]";
 
 #[cfg(feature = "library")]
-const SUBJECT: (compare::ffi::Verified, &str) = (compare::ffi::Verified, "the verified library");
+const SUBJECT: (compare::ffi::Verified, &str) = (compare::ffi::Verified, compare::ffi::ARCHIVE);
 #[cfg(not(feature = "library"))]
 const SUBJECT: (compare::lent::Lent, &str) = (compare::lent::Lent, "the Rust linker itself, as a stand-in");
 

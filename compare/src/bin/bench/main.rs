@@ -118,9 +118,10 @@ fn explain(runs: usize) {
     println!("image written; MEMORY: state read).");
     println!("Buffers: one state, one work memory and one output, lent to each in turn. Before each run the state is copied back,");
     println!("which is not timed and leaves it in the cache; work memory is zero already. Up to {runs} runs of each, alternating.");
-    if cfg!(not(feature = "library")) {
-        println!("The feature 'library' is off: the stand-in is the Rust linker once more.");
-    }
+    #[cfg(feature = "library")]
+    println!("{name}: {}", compare::ffi::ARCHIVE);
+    #[cfg(not(feature = "library"))]
+    println!("{name}: the Rust linker once more, since the feature 'library' is off.");
 }
 
 fn measure(input: &Input, memory: &mut Memory, runs: usize) -> Times {
