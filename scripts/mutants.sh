@@ -24,10 +24,12 @@ differ() {
 }
 
 fresh_copy() {
-  rm -rf "$copy"
+  rm -rf "$copy" "$here/target/mutants/include"
   mkdir -p "$copy/stand-in"
   cp -r Cargo.toml build.rs src "$copy"
   cp -r stand-in/Cargo.toml stand-in/src "$copy/stand-in"
+  # where the copy's build.rs looks for the header
+  [ ! -d ../include ] || cp -r ../include "$here/target/mutants/include"
 }
 
 missed=0
