@@ -1,0 +1,50 @@
+//! The list of answers.
+
+/// What a call is refused for. `DONE` (0) is no refusal and has no variant.
+#[derive(Clone, Copy, Debug, PartialEq, Eq)]
+pub enum Reason {
+    Buffer = 1,
+    Damaged = 2,
+    Reset = 3,
+    Frozen = 4,
+    TooLong = 5,
+    Line = 6,
+    Place = 7,
+    List = 8,
+    Room = 9,
+    Overlap = 10,
+    Arg = 11,
+    Range = 12,
+    Duplicate = 13,
+    Table = 14,
+    Name = 15,
+    Out = 16,
+}
+
+/// A refused call: the reason, and the line of the file that it is told at (0 where none is named).
+#[derive(Clone, Copy, Debug, PartialEq, Eq)]
+pub struct Refusal {
+    pub reason: Reason,
+    pub line: u64,
+}
+
+impl Refusal {
+    pub fn at(reason: Reason, line: u64) -> Refusal {
+        Refusal { reason, line }
+    }
+
+    pub fn number(self) -> u64 {
+        self.reason as u64
+    }
+
+    /// Whether a LOAD refused like this was refused for what is in its file, and so sets the broken mark.
+    pub fn breaks(self) -> bool {
+        (Reason::Line as u64..=Reason::Table as u64).contains(&self.number())
+    }
+}
+
+impl From<Reason> for Refusal {
+    fn from(reason: Reason) -> Refusal {
+        Refusal::at(reason, 0)
+    }
+}

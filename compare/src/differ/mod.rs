@@ -1,0 +1,12 @@
+//! Differential tests: cases made out of a seed are played on two implementations, and every answer, state, image and
+//! output byte is compared.
+
+pub mod author;
+pub mod case;
+pub mod damage;
+pub mod draft;
+pub mod limits;
+pub mod play;
+pub mod rng;
+pub mod run;
+pub mod states;

@@ -1,0 +1,408 @@
+//! Plays a case on two implementations, side by side, and compares everything that was lent after each call.
+
+use std::fmt;
+
+use super::case::{Call, Case, Index, Room, Step};
+use super::rng::Rng;
+use crate::calls::{CallAnswer, Calls, EndAnswer, LoadAnswer, MemoryAnswer, SymbolAnswer, UndefinedAnswer};
+use crate::lent::Lent;
+use crate::linker::{MOST_SYMBOLS, PROGRAM_WORDS};
+use crate::memory::*;
+
+const LONGEST_IMAGE: usize = 11 * PROGRAM_WORDS + 5;
+
+/// Where two implementations part, or one leaves the paper.
+#[derive(Debug)]
+pub struct Failure {
+    pub step: usize,
+    pub call: String,
+    pub what: String,
+    /// The file, where the call was a LOAD.
+    pub file: Option<Vec<u8>>,
+}
+
+impl fmt::Display for Failure {
+    fn fmt(&self, f: &mut fmt::Formatter<'_>) -> fmt::Result {
+        write!(f, "step {}: {}: {}", self.step, self.call, self.what)
+    }
+}
+
+/// How often each answer was seen, so that a run shows what it reached.
+#[derive(Clone, Debug, Default)]
+pub struct Seen {
+    pub calls: u64,
+    pub loads: [u64; 17],
+    pub others: [u64; 17],
+    pub most_rounds: u64,
+}
+
+/// An answer of any call.
+#[derive(Clone, Copy, Debug, PartialEq, Eq)]
+enum Answer {
+    Load(LoadAnswer),
+    Call(CallAnswer),
+    Memory(MemoryAnswer),
+    Symbol(SymbolAnswer),
+    Undefined(UndefinedAnswer),
+    End(EndAnswer),
+}
+
+impl Answer {
+    /// The number, the line, and whether every other field is 0.
+    fn parts(self) -> (u64, u64, bool) {
+        match self {
+            Answer::Load(a) => (a.number, a.line, a.rounds == 0),
+            Answer::Call(a) => (a.number, a.line, true),
+            Answer::Memory(a) => (a.number, a.line, a.high == 0),
+            Answer::Symbol(a) => {
+                (a.number, a.line, a == SymbolAnswer { number: a.number, line: a.line, ..Default::default() })
+            }
+            Answer::Undefined(a) => {
+                (a.number, a.line, a == UndefinedAnswer { number: a.number, line: a.line, ..Default::default() })
+            }
+            Answer::End(a) => (a.number, a.line, a.length == 0),
+        }
+    }
+}
+
+/// Memory to lend, between two margins that nobody may write to.
+struct Guarded<T> {
+    memory: Vec<T>,
+    guard: T,
+}
+
+const MARGIN: usize = 32;
+
+impl<T: Copy + PartialEq> Guarded<T> {
+    fn new(content: &[T], guard: T) -> Guarded<T> {
+        let mut memory = vec![guard; content.len() + 2 * MARGIN];
+        memory[MARGIN..MARGIN + content.len()].copy_from_slice(content);
+        Guarded { memory, guard }
+    }
+
+    fn lent(&mut self) -> &mut [T] {
+        let end = self.memory.len() - MARGIN;
+        &mut self.memory[MARGIN..end]
+    }
+
+    fn view(&self) -> &[T] {
+        &self.memory[MARGIN..self.memory.len() - MARGIN]
+    }
+
+    fn is_intact(&self) -> bool {
+        let (front, back) = (&self.memory[..MARGIN], &self.memory[self.memory.len() - MARGIN..]);
+        front.iter().chain(back).all(|&cell| cell == self.guard)
+    }
+}
+
+const CELL_GUARD: u64 = 0x5AFE_5AFE_5AFE_5AFE;
+const BYTE_GUARD: u8 = 0x5A;
+
+/// What one implementation is lent.
+struct Side<'a> {
+    calls: &'a dyn Calls,
+    state: Guarded<u64>,
+    work: Guarded<u64>,
+    out: Guarded<u8>,
+}
+
+impl<'a> Side<'a> {
+    fn new(calls: &'a dyn Calls) -> Side<'a> {
+        Side {
+            calls,
+            state: Guarded::new(&fresh(), CELL_GUARD),
+            work: Guarded::new(&vec![0; WORK_CELLS], CELL_GUARD),
+            out: Guarded::new(&[], BYTE_GUARD),
+        }
+    }
+
+    fn call(&mut self, call: &ResolvedCall) -> Answer {
+        let (calls, state) = (self.calls, self.state.lent());
+        match *call {
+            ResolvedCall::Load(file) => Answer::Load(calls.load(state, self.work.lent(), file)),
+            ResolvedCall::Force(name) => Answer::Call(calls.force(state, name)),
+            ResolvedCall::Base(address) => Answer::Call(calls.base(state, address)),
+            ResolvedCall::Reset => Answer::Call(calls.reset(state)),
+            ResolvedCall::Memory => Answer::Memory(calls.memory(state)),
+            ResolvedCall::Symbols(index) => Answer::Symbol(calls.symbols(state, index)),
+            ResolvedCall::Undefined(index) => Answer::Undefined(calls.undefined(state, index)),
+            ResolvedCall::End => Answer::End(calls.end(state, self.out.lent())),
+        }
+    }
+
+    fn is_intact(&self) -> bool {
+        self.state.is_intact() && self.work.is_intact() && self.out.is_intact()
+    }
+}
+
+/// A call with its arguments worked out; work memory and output stand in the side.
+#[derive(Clone, Copy)]
+enum ResolvedCall<'a> {
+    Load(&'a [u8]),
+    Force(&'a [u8]),
+    Base(u64),
+    Reset,
+    Memory,
+    Symbols(u64),
+    Undefined(u64),
+    End,
+}
+
+/// Two implementations with equal memories: the Rust linker, and the one that is compared with it.
+pub struct Player<'a> {
+    reference: Side<'a>,
+    subject: Side<'a>,
+    junk: Rng,
+    pub seen: Seen,
+}
+
+impl<'a> Player<'a> {
+    pub fn new(subject: &'a dyn Calls) -> Player<'a> {
+        let (reference, subject) = (Side::new(&Lent), Side::new(subject));
+        Player { reference, subject, junk: Rng::new(0), seen: Seen::default() }
+    }
+
+    /// Plays the steps and then looks at the end state with every call that reads it.
+    pub fn play(&mut self, case: &Case, rng: &mut Rng) -> Result<(), Failure> {
+        self.junk = rng.clone();
+        self.put_state(&case.state);
+        for (number, step) in case.steps.iter().enumerate() {
+            self.step(step).map_err(|what| Failure {
+                step: number + 1,
+                call: format!("{:?} on {} cells", step.call, step.state_cells),
+                what,
+                file: match &step.call {
+                    Call::Load { file, .. } => Some(file.clone()),
+                    _ => None,
+                },
+            })?;
+        }
+        for call in self.last_looks() {
+            let shown = format!("{call:?}");
+            self.step(&call.into()).map_err(|what| Failure {
+                step: case.steps.len() + 1,
+                call: shown,
+                what: format!("{what} (looking at the end state)"),
+                file: None,
+            })?;
+        }
+        Ok(())
+    }
+
+    /// The calls that read the end state. Now and then they list every symbol, which takes its time.
+    fn last_looks(&mut self) -> Vec<Call> {
+        let any = Index::At(self.junk.next() % MOST_SYMBOLS as u64);
+        let mut indices = vec![Index::At(0), any, Index::FromEnd(-1), Index::FromEnd(0)];
+        if self.junk.percent(2) {
+            indices.extend((0..=MOST_SYMBOLS as u64).map(Index::At));
+        }
+        let mut looks = vec![Call::Memory];
+        looks.extend(indices.iter().copied().map(Call::Symbols));
+        looks.extend(indices.iter().copied().map(Call::Undefined));
+        looks.extend([Call::End(Room::FromImage(-1)), Call::End(Room::FromImage(7))]);
+        looks
+    }
+
+    fn put_state(&mut self, cells: &[u64]) {
+        for side in [&mut self.reference, &mut self.subject] {
+            side.state = Guarded::new(cells, CELL_GUARD);
+        }
+    }
+
+    fn step(&mut self, step: &Step) -> Result<(), String> {
+        if let Call::Poke(cells) = &step.call {
+            for side in [&mut self.reference, &mut self.subject] {
+                cells.iter().for_each(|&(cell, content)| side.state.lent()[cell] = content);
+            }
+            return Ok(());
+        }
+        if step.state_cells == STATE_CELLS {
+            return self.call(step);
+        }
+        // Another length: this call gets a copy, cut or filled up, and the state itself stays for the next one.
+        let kept = self.reference.state.view().to_vec();
+        let mut other = kept.clone();
+        other.resize(step.state_cells, 0);
+        self.put_state(&other);
+        let outcome = self.call(step);
+        self.put_state(&kept);
+        outcome
+    }
+
+    fn call(&mut self, step: &Step) -> Result<(), String> {
+        let before = self.reference.state.view().to_vec();
+        // What is lent for reading is a copy, so that it can be seen whether somebody wrote to it.
+        let bytes = step.call.bytes().to_vec();
+        let call = self.prepare(&step.call, &bytes, &before);
+        let work = (self.subject.work.view().len() != WORK_CELLS).then(|| self.subject.work.view().to_vec());
+        let out = self.subject.out.view().to_vec();
+
+        let expected = self.reference.call(&call);
+        let answer = self.subject.call(&call);
+        self.note(answer);
+
+        if answer != expected {
+            return Err(format!("answered {answer:?}, the Rust linker {expected:?}"));
+        }
+        let (number, line, _) = answer.parts();
+        if step.expected.is_some_and(|expected| expected != (number, line)) {
+            return Err(format!("both answered {number} at line {line}, the paper says {:?}", step.expected));
+        }
+        if bytes != step.call.bytes() {
+            return Err("wrote into the bytes that were lent for reading".into());
+        }
+        self.compare_memory(&call)?;
+        self.check_promises(&call, answer, &before, work.as_deref(), &out)
+    }
+
+    /// Works out the arguments, and fills work memory and output with anything.
+    fn prepare<'b>(&mut self, call: &Call, bytes: &'b [u8], state: &[u64]) -> ResolvedCall<'b> {
+        match *call {
+            Call::Load { work_cells, .. } => {
+                self.fill_work(work_cells);
+                ResolvedCall::Load(bytes)
+            }
+            Call::Force(_) => ResolvedCall::Force(bytes),
+            Call::Base(address) => ResolvedCall::Base(address),
+            Call::Reset => ResolvedCall::Reset,
+            Call::Memory => ResolvedCall::Memory,
+            Call::Symbols(index) => ResolvedCall::Symbols(resolve_index(index, symbols_in(state))),
+            Call::Undefined(index) => ResolvedCall::Undefined(resolve_index(index, undefined_in(state))),
+            Call::End(room) => {
+                self.fill_out(resolve_room(room, state));
+                ResolvedCall::End
+            }
+            Call::Poke(_) => unreachable!("a poke is no call"),
+        }
+    }
+
+    /// Work memory of some length with anything in it. All of it is filled only now and then, to save time.
+    fn fill_work(&mut self, cells: usize) {
+        let (seed, stride) = (self.junk.next(), *self.junk.pick(&[1, 61, 61, 61, 61, 61, 61, 61]));
+        for side in [&mut self.reference, &mut self.subject] {
+            if side.work.view().len() != cells {
+                side.work = Guarded::new(&vec![0; cells], CELL_GUARD);
+            }
+            let mut junk = Rng::new(seed);
+            side.work.lent().iter_mut().step_by(stride).for_each(|cell| *cell = junk.next());
+        }
+    }
+
+    fn fill_out(&mut self, bytes: usize) {
+        let mut junk = Rng::new(self.junk.next());
+        let content: Vec<u8> = (0..bytes).map(|_| junk.next() as u8).collect();
+        for side in [&mut self.reference, &mut self.subject] {
+            side.out = Guarded::new(&content, BYTE_GUARD);
+        }
+    }
+
+    fn note(&mut self, answer: Answer) {
+        self.seen.calls += 1;
+        let (number, _, _) = answer.parts();
+        let list = if let Answer::Load(load) = answer {
+            self.seen.most_rounds = self.seen.most_rounds.max(load.rounds);
+            &mut self.seen.loads
+        } else {
+            &mut self.seen.others
+        };
+        if let Some(count) = list.get_mut(number as usize) {
+            *count += 1;
+        }
+    }
+
+    fn compare_memory(&self, call: &ResolvedCall) -> Result<(), String> {
+        same("state cell", self.subject.state.view(), self.reference.state.view())?;
+        match call {
+            ResolvedCall::Load(_) => same("work cell", self.subject.work.view(), self.reference.work.view())?,
+            ResolvedCall::End => same("output byte", self.subject.out.view(), self.reference.out.view())?,
+            _ => {}
+        }
+        if !self.subject.is_intact() {
+            return Err("wrote outside the memory that was lent".into());
+        }
+        Ok(())
+    }
+
+    /// What must hold of the subject whatever the Rust linker says.
+    fn check_promises(
+        &self,
+        call: &ResolvedCall,
+        answer: Answer,
+        before: &[u64],
+        work: Option<&[u64]>,
+        out: &[u8],
+    ) -> Result<(), String> {
+        let (number, _, rest_is_zero) = answer.parts();
+        let after = self.subject.state.view();
+        let refused = number != 0;
+        if number > 16 {
+            return Err(format!("{number} is not on the list of answers"));
+        }
+        if refused && !rest_is_zero {
+            return Err(format!("a refused answer has more than a number and a line: {answer:?}"));
+        }
+        if refused {
+            let mut kept = before.to_vec();
+            if matches!(call, ResolvedCall::Load(_)) && (6..=14).contains(&number) {
+                kept[MARK] = BROKEN;
+            }
+            same("after a refusal, state cell", after, &kept)?;
+            same("after a refusal, output byte", self.subject.out.view(), out)?;
+        }
+        if !refused && !is_sound(after) {
+            return Err("left a state that is not sound".into());
+        }
+        if let ResolvedCall::Load(_) = call {
+            let lent = self.subject.work.view();
+            if lent.len() != WORK_CELLS {
+                same("work memory of another length, cell", lent, work.unwrap_or(lent))?;
+            } else if lent.iter().any(|&cell| cell != 0) {
+                return Err("work memory did not come back zero".into());
+            }
+        }
+        if let Answer::End(EndAnswer { number: 0, length, .. }) = answer {
+            let image = 11 * placed(after) + 5;
+            if length != image as u64 {
+                return Err(format!("the image has {image} bytes, and not {length}"));
+            }
+            same("past the image, output byte", &self.subject.out.view()[image..], &out[image..])?;
+        }
+        Ok(())
+    }
+}
+
+fn same<T: PartialEq + fmt::Debug>(what: &str, found: &[T], expected: &[T]) -> Result<(), String> {
+    if found == expected {
+        return Ok(());
+    }
+    match found.iter().zip(expected).position(|(found, expected)| found != expected) {
+        Some(place) => Err(format!("{what} {place} is {:?}, and should be {:?}", found[place], expected[place])),
+        None => Err(format!("{what}s: {} of them, and should be {}", found.len(), expected.len())),
+    }
+}
+
+fn symbols_in(state: &[u64]) -> u64 {
+    state.first().map_or(0, |&count| count.min(MOST_SYMBOLS as u64))
+}
+
+fn undefined_in(state: &[u64]) -> u64 {
+    let count = symbols_in(state) as usize;
+    state.get(VALUES).map_or(0, |values| values[..count].iter().filter(|&&value| value == 0).count() as u64)
+}
+
+fn resolve_index(index: Index, end: u64) -> u64 {
+    match index {
+        Index::At(index) => index,
+        Index::FromEnd(distance) => end.saturating_add_signed(distance),
+    }
+}
+
+fn resolve_room(room: Room, state: &[u64]) -> usize {
+    match room {
+        Room::Bytes(bytes) => bytes.min(2 * LONGEST_IMAGE),
+        Room::FromImage(distance) => {
+            let placed = if state.len() == STATE_CELLS { placed(state) } else { 0 };
+            (11 * placed + 5).saturating_add_signed(distance)
+        }
+    }
+}

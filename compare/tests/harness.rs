@@ -1,0 +1,246 @@
+//! The harness itself: the Rust linker agrees with itself, and planted errors are noticed.
+
+use compare::answer::{Reason, Refusal};
+use compare::calls::*;
+use compare::differ::case;
+use compare::differ::rng::Rng;
+use compare::differ::run::{run, Options};
+use compare::lent::Lent;
+use compare::linker::Linker;
+use compare::memory::{self, BROKEN, FROZEN, MARK, STATE_CELLS};
+use compare::object::{Item, Module, Section};
+use compare::reader;
+
+fn options(cases: u64, limits: bool) -> Options {
+    Options { cases, seed: 7, first: 0, limits, longest: None, trace: false }
+}
+
+#[test]
+fn the_linker_agrees_with_itself() {
+    let summary = run(&Lent, &options(150, true)).unwrap_or_else(|found| panic!("{found:?}"));
+    assert_eq!(summary.cases, 150);
+    for number in [0, 1, 2, 3, 4, 5, 6, 7, 8, 9, 10, 11, 12, 13, 14] {
+        assert!(summary.seen.loads[number] > 0, "no LOAD was answered {number}");
+    }
+    for number in [0, 1, 2, 3, 4, 12, 14, 15, 16] {
+        assert!(summary.seen.others[number] > 0, "no other call was answered {number}");
+    }
+}
+
+#[test]
+fn cases_can_be_made() {
+    for number in 0..10_000 {
+        let case = case::random(&mut Rng::for_case(11, number));
+        assert!(case.state.len() == STATE_CELLS && !case.steps.is_empty());
+    }
+}
+
+/// An error in one call; the others are the Rust linker's.
+#[derive(Clone, Copy, Debug)]
+enum Mutant {
+    AbsoluteEntriesMoved,
+    SearchedOnce,
+    AllTaken,
+    NoneTaken,
+    IdleRoundNotCounted,
+    SectionNotTestedForDuplicates,
+    ExternalsJoinBeforeEntries,
+    SymbolsLeftBehindARefusal,
+    BrokenMarkForgotten,
+    BrokenMarkForTooLong,
+    WorkNotClearedOnRefusal,
+    WorkOfWrongLengthCleared,
+    LineOffByOne,
+    EndFreezesOnRefusal,
+    EndClearsTheRest,
+    ForceAddsAnotherName,
+    MemoryReadsDamagedStates,
+    NoneWithoutMark,
+    UndefinedTellsNoReference,
+}
+
+impl Mutant {
+    const ALL: [Mutant; 19] = [
+        Mutant::AbsoluteEntriesMoved,
+        Mutant::SearchedOnce,
+        Mutant::AllTaken,
+        Mutant::NoneTaken,
+        Mutant::IdleRoundNotCounted,
+        Mutant::SectionNotTestedForDuplicates,
+        Mutant::ExternalsJoinBeforeEntries,
+        Mutant::SymbolsLeftBehindARefusal,
+        Mutant::BrokenMarkForgotten,
+        Mutant::BrokenMarkForTooLong,
+        Mutant::WorkNotClearedOnRefusal,
+        Mutant::WorkOfWrongLengthCleared,
+        Mutant::LineOffByOne,
+        Mutant::EndFreezesOnRefusal,
+        Mutant::EndClearsTheRest,
+        Mutant::ForceAddsAnotherName,
+        Mutant::MemoryReadsDamagedStates,
+        Mutant::NoneWithoutMark,
+        Mutant::UndefinedTellsNoReference,
+    ];
+
+    /// The walk over what a file holds, with the mutant's error. A refusal leaves the linker half-walked.
+    fn walk(self, linker: &mut Linker, items: Vec<Item>) -> Result<u64, Refusal> {
+        let mut rounds = 0;
+        for item in items {
+            match (self, item) {
+                (Mutant::AbsoluteEntriesMoved, item) => rounds += linker.walk(&[relocated(item)])?,
+                (Mutant::SearchedOnce, Item::Section(section)) => {
+                    // As the manual's linker searches, but with the rounds of the full search.
+                    rounds += linker.clone().search(&section)?;
+                    sweep(linker, &section)?;
+                }
+                (Mutant::AllTaken, Item::Section(section)) => {
+                    rounds += linker.clone().search(&section)?;
+                    section.modules.iter().try_for_each(|module| linker.place(module))?;
+                }
+                (Mutant::NoneTaken, Item::Section(section)) => rounds += linker.clone().search(&section)?,
+                (Mutant::IdleRoundNotCounted, Item::Section(section)) => rounds += linker.search(&section)? - 1,
+                (Mutant::SectionNotTestedForDuplicates, Item::Section(section)) => loop {
+                    rounds += 1;
+                    if sweep(linker, &section)? == 0 {
+                        break;
+                    }
+                },
+                (Mutant::ExternalsJoinBeforeEntries, Item::Module(module)) => {
+                    let mentions = Module { externals: module.externals.clone(), ..Module::default() };
+                    linker.place(&mentions)?;
+                    linker.place(&module)?;
+                }
+                (_, item) => rounds += linker.walk(&[item])?,
+            }
+        }
+        Ok(rounds)
+    }
+}
+
+/// Every entry as a relocated one.
+fn relocated(mut item: Item) -> Item {
+    let modules = match &mut item {
+        Item::Module(module) => std::slice::from_mut(module),
+        Item::Section(section) => &mut section.modules,
+    };
+    modules.iter_mut().flat_map(|module| &mut module.entries).for_each(|entry| entry.relocated = true);
+    item
+}
+
+fn is_wanted(linker: &Linker, module: &Module) -> bool {
+    let undefined = |name| (0..).map_while(|index| linker.undefined(index)).any(|symbol| symbol.name == name);
+    module.entries.iter().any(|entry| undefined(entry.name))
+}
+
+/// One round over all modules; tells how many it took.
+fn sweep(linker: &mut Linker, section: &Section) -> Result<usize, Refusal> {
+    let mut taken = 0;
+    for module in &section.modules {
+        if is_wanted(linker, module) {
+            linker.place(module)?;
+            taken += 1;
+        }
+    }
+    Ok(taken)
+}
+
+impl Calls for Mutant {
+    fn load(&self, state: &mut [u64], work: &mut [u64], file: &[u8]) -> LoadAnswer {
+        let (before, work_before) = (state.to_vec(), work.to_vec());
+        let mut answer = Lent.load(state, work, file);
+        let breaks = (6..=14).contains(&answer.number);
+        match self {
+            Mutant::BrokenMarkForgotten if breaks => state[MARK] = before[MARK],
+            Mutant::BrokenMarkForTooLong if answer.number == Reason::TooLong as u64 => state[MARK] = BROKEN,
+            Mutant::WorkNotClearedOnRefusal if answer.number == 9 => work.copy_from_slice(&work_before),
+            Mutant::WorkOfWrongLengthCleared if answer.number == 1 => work.fill(0),
+            Mutant::LineOffByOne if answer.number == 7 => answer.line -= 1,
+            _ => {}
+        }
+        // The rest of the errors lie in the walk.
+        if before.len() != STATE_CELLS || !matches!(answer.number, 0 | 9..=14) {
+            return answer;
+        }
+        let (Some(mut linker), Ok(items)) = (memory::decode(&before), reader::read(file)) else { return answer };
+        match self.walk(&mut linker, items) {
+            Ok(rounds) => {
+                memory::encode(&linker, state);
+                LoadAnswer { number: 0, line: 0, rounds }
+            }
+            Err(refusal) => {
+                if let Mutant::SymbolsLeftBehindARefusal = self {
+                    memory::encode(&linker, state);
+                    state[MARK] = BROKEN;
+                }
+                LoadAnswer { number: refusal.number(), line: refusal.line, rounds: 0 }
+            }
+        }
+    }
+
+    fn force(&self, state: &mut [u64], name: &[u8]) -> CallAnswer {
+        match (self, Lent.force(state, name)) {
+            (Mutant::ForceAddsAnotherName, CallAnswer { number: 0, .. }) if state[0] < 3 => Lent.force(state, b"EXTRA"),
+            (_, answer) => answer,
+        }
+    }
+
+    fn base(&self, state: &mut [u64], address: u64) -> CallAnswer {
+        Lent.base(state, address)
+    }
+
+    fn reset(&self, state: &mut [u64]) -> CallAnswer {
+        Lent.reset(state)
+    }
+
+    fn memory(&self, state: &[u64]) -> MemoryAnswer {
+        match (self, Lent.memory(state)) {
+            (Mutant::MemoryReadsDamagedStates, MemoryAnswer { number: 2, .. }) => MemoryAnswer::default(),
+            (_, answer) => answer,
+        }
+    }
+
+    fn symbols(&self, state: &[u64], index: u64) -> SymbolAnswer {
+        match (self, Lent.symbols(state, index)) {
+            (Mutant::NoneWithoutMark, SymbolAnswer { none: 1, .. }) => SymbolAnswer::default(),
+            (_, answer) => answer,
+        }
+    }
+
+    fn undefined(&self, state: &[u64], index: u64) -> UndefinedAnswer {
+        match (self, Lent.undefined(state, index)) {
+            (Mutant::UndefinedTellsNoReference, answer @ UndefinedAnswer { number: 0, none: 0, .. }) => {
+                UndefinedAnswer { highest: 65535, ..answer }
+            }
+            (_, answer) => answer,
+        }
+    }
+
+    fn end(&self, state: &mut [u64], out: &mut [u8]) -> EndAnswer {
+        let answer = Lent.end(state, out);
+        match self {
+            Mutant::EndFreezesOnRefusal if answer.number == 16 => state[MARK] = FROZEN,
+            Mutant::EndClearsTheRest if answer.number == 0 => out[answer.length as usize..].fill(0),
+            _ => {}
+        }
+        answer
+    }
+}
+
+#[test]
+fn planted_errors_are_noticed_in_random_cases() {
+    for mutant in Mutant::ALL {
+        let found = run(&mutant, &options(3000, false)).err();
+        let found = found.unwrap_or_else(|| panic!("{mutant:?} was not noticed"));
+        println!("{mutant:?}: case {:?}, {}", found.number, found.failure);
+    }
+}
+
+#[test]
+fn a_failure_can_be_repeated_alone() {
+    let found = run(&Mutant::SearchedOnce, &options(3000, false)).expect_err("it is noticed");
+    let number = found.number.expect("a random case");
+    let alone = Options { first: number, ..options(1, false) };
+    let again = run(&Mutant::SearchedOnce, &alone).expect_err("it is noticed again");
+    assert_eq!(again.number, found.number);
+    assert_eq!(again.failure.to_string(), found.failure.to_string());
+}

@@ -1,0 +1,110 @@
+#!/usr/bin/env bash
+# Plants one error at a time into a copy of the Rust linker, links the copy in place of the verified library, and looks
+# whether differ notices. So it tries the harness and the C interface, and needs no verified library. Some minutes.
+#
+#   scripts/mutants.sh [WORD]    only mutants whose label has the word
+set -eu
+cd "$(dirname "$0")/../compare"
+here=$PWD
+copy=$here/target/mutants/copy
+stand_in=$here/target/mutants/stand-in
+export CARGO_PROFILE_RELEASE_OPT_LEVEL=1
+
+# The stand-in over the copy, as liblinker.a. The copy is a crate of another name: else the linker could take a function of
+# the copy from the unchanged crate.
+build_library() {
+  sed -i 's/^name = "compare"/name = "mutant"/' "$copy/Cargo.toml"
+  sed -i 's/^compare = { path = ".." }/compare = { path = "..", package = "mutant" }/' "$copy/stand-in/Cargo.toml"
+  (cd "$copy/stand-in" && CARGO_TARGET_DIR=$stand_in cargo build --offline --quiet --release)
+}
+
+differ() {
+  LNK100_LIB=$stand_in/release CARGO_TARGET_DIR=$here/target/mutants/differ \
+    cargo run --offline --quiet --release --features library --bin differ -- "$@"
+}
+
+fresh_copy() {
+  rm -rf "$copy" "$here/target/mutants/include"
+  mkdir -p "$copy/stand-in"
+  cp -r Cargo.toml build.rs src "$copy"
+  cp -r stand-in/Cargo.toml stand-in/src "$copy/stand-in"
+  # where the copy's build.rs looks for the header
+  [ ! -d ../include ] || cp -r ../include "$here/target/mutants/include"
+}
+
+missed=0
+tried=0
+mutant() { # label, file under src/, sed expression
+  case "$1" in *"${word:-}"*) ;; *) return 0 ;; esac
+  tried=$((tried + 1))
+  fresh_copy
+  sed -i "$3" "$copy/src/$2"
+  if cmp -s "src/$2" "$copy/src/$2"; then
+    echo "NO EDIT      $1: the expression fits nothing in src/$2"
+    missed=$((missed + 1))
+  elif ! build_library; then
+    echo "NO BUILD     $1"
+    missed=$((missed + 1))
+  elif said=$(differ 20000 1); then
+    echo "NOT NOTICED  $1"
+    missed=$((missed + 1))
+  else
+    echo "noticed      $1: $(printf '%s\n' "$said" | grep -m 1 '^FAILED' || echo 'it did not come back')"
+  fi
+}
+
+word=${1:-}
+fresh_copy
+build_library
+if ! said=$(differ 500 1); then
+  printf '%s\n' "$said" "The stand-in without an error does not agree with the Rust linker."
+  exit 1
+fi
+echo "agrees       the stand-in without an error"
+
+mutant "absolute entries moved" linker.rs 's/if entry.relocated {/if true {/'
+mutant "search once only" linker.rs 's/if self.table.is_undefined(\*name) {/if provider > place \&\& self.table.is_undefined(*name) {/'
+mutant "idle round not counted" linker.rs 's/rounds = round + 1;/rounds = round;/'
+mutant "fourth quarter does not wrap" linker.rs 's/wrapping_add/saturating_add/'
+mutant "last word has no room" linker.rs 's/base + module.length > PROGRAM_WORDS/base + module.length >= PROGRAM_WORDS/'
+mutant "words of no placed block lengthen" reader.rs 's/if count > 0 {/if true {/'
+mutant "section duplicates only within a module" linker.rs 's/if providers.insert(entry.name, place).is_some() {/if providers.insert(entry.name, place) == Some(place) {/'
+mutant "section duplicates told at line 0" linker.rs 's/Refusal::at(Reason::Duplicate, section.line)/Refusal::at(Reason::Duplicate, 0)/'
+mutant "last external refused" linker.rs 's/let externals = 1..=module.externals.len();/let externals = 1..module.externals.len();/'
+mutant "table of 257" linker.rs 's/self.table.symbols.len() > MOST_SYMBOLS/self.table.symbols.len() > MOST_SYMBOLS + 1/'
+mutant "forced table of 255" linker.rs 's/self.table.symbols.len() == MOST_SYMBOLS/self.table.symbols.len() >= MOST_SYMBOLS - 1/'
+mutant "BASE of 4096" linker.rs 's/if address > LARGEST_BASE {/if address > LARGEST_BASE + 1 {/'
+mutant "lowest reference told" linker.rs 's/rposition(refers)/position(refers)/'
+mutant "file of 65537" linker.rs 's/file.len() > LONGEST_FILE/file.len() > LONGEST_FILE + 1/'
+mutant "END on a frozen state refused" linker.rs 's/let length = self.image_length();/self.refuse_frozen()?; let length = self.image_length();/'
+mutant "octal read as decimal" text.rs 's/value \* 8/value * 10/'
+mutant "seven digits" text.rs 's/MOST_DIGITS: usize = 6/MOST_DIGITS: usize = 7/'
+mutant "line of 81" text.rs 's/LONGEST_LINE: usize = 80/LONGEST_LINE: usize = 81/'
+mutant "CR dropped without LF" text.rs "s/None => line,/None => line.strip_suffix(b\"\\\\r\").unwrap_or(line),/"
+mutant "byte 127" text.rs "s/(b' '..=b'~')/(b' '..=0x7f)/"
+mutant "names that begin with a digit" name.rs 's/!text.first()?.is_ascii_uppercase()/!text.first()?.is_ascii_alphanumeric()/'
+mutant "names of five" name.rs 's/LONGEST: usize = 6/LONGEST: usize = 5/'
+mutant "names with stray bytes" name.rs 's/filter(|name| name.0 == cell)/filter(|name| name.0 <= cell)/'
+mutant "65 entries" reader.rs 's/MOST_ENTRIES: usize = 64/MOST_ENTRIES: usize = 65/'
+mutant "65 externals" reader.rs 's/MOST_EXTERNALS: usize = 64/MOST_EXTERNALS: usize = 65/'
+mutant "257 modules" reader.rs 's/MOST_MODULES: usize = 256/MOST_MODULES: usize = 257/'
+mutant "FPB size of 8" reader.rs 's/LARGEST_FPB_SIZE: u16 = 7/LARGEST_FPB_SIZE: u16 = 8/'
+mutant "FPB without sub-records" reader.rs 's/self.skip(size, .*/let _ = size;/'
+mutant "END title not compared" reader.rs 's/if self.record(parse_name)? != title {/if self.record(parse_name)? < title {/'
+mutant "type 4 as external" reader.rs 's/(0, 5) => Relocation/(0, 4 | 5) => Relocation/'
+mutant "first number not tested" reader.rs 's/(0, 5) => Relocation/(_, 5) => Relocation/'
+mutant "a sixth field of a DBIB record" reader.rs '/fn parse_five_fields/,/^}/s/fields.end()$/Some(())/'
+mutant "end of file told at the last line" reader.rs 's/self.next_header()?.ok_or(self.fault(Reason::Place))/self.next_header()?.ok_or(Refusal::at(Reason::Place, self.line - 1))/'
+mutant "names twice are sound" memory.rs 's/&& all_different(names)/\&\& all_different(\&names[..names.len() \/ 2])/'
+mutant "unused names may hold anything" memory.rs 's/no_names.iter().chain(no_values)/no_values.iter()/;s/(names, no_names)/(names, _)/'
+mutant "reference past the table is sound" memory.rs 's/tag < REFERENCE + count/tag <= REFERENCE + count/'
+mutant "spare cell not tested" memory.rs 's/ || cells\[SPARE\] != 0//'
+mutant "next address of 4097 is sound" memory.rs 's/next > PROGRAM_WORDS as u64/next > PROGRAM_WORDS as u64 + 1/'
+mutant "unplaced text is sound" memory.rs 's/tag != UNPLACED || text == 0/tag != UNPLACED || text < 2/'
+mutant "work of a refused load kept" lent.rs 's/if work_fits {/if work_fits \&\& outcome.is_ok() {/'
+mutant "short work memory accepted" lent.rs 's/work.len() == WORK_CELLS/work.len() >= WORK_CELLS - 1/'
+mutant "broken mark forgotten" lent.rs 's/state\[MARK\] = BROKEN;/let _ = (BROKEN, MARK);/'
+mutant "too long breaks" answer.rs 's/Reason::Line as u64..=/Reason::TooLong as u64..=/'
+
+echo "$tried mutants, $missed not noticed"
+[ "$missed" -eq 0 ]
