@@ -181,7 +181,11 @@ fn show_stop(number: u64, line: u64, column: u64) {
 fn show_reading(reading: Reading) {
     match reading {
         Reading::Complete => say(b": complete"),
-        Reading::Stopped { number, line, column } => show_stop(number as u64, line as u64, column as u64),
+        Reading::Stopped {
+            number,
+            line,
+            column,
+        } => show_stop(number as u64, line as u64, column as u64),
     }
 }
 

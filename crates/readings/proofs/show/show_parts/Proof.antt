@@ -46,7 +46,6 @@ loop-again c = search needs
 returns : tie.Need-returns Inv-loop μ-loop
 returns c = search needs
 
-
 pub show-parts-spec : {M : Type 1} → statement M
 show-parts-spec =
     tie.close

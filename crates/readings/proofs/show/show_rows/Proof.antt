@@ -43,7 +43,6 @@ loop-again c = search needs
 returns : tie.Need-returns Inv-loop μ-loop
 returns c = search needs
 
-
 pub show-rows-spec : {M : Type 1} → statement M
 show-rows-spec =
     tie.close
