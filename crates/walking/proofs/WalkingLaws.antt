@@ -2,7 +2,7 @@
 use Prim.Native.Nat.{ℕ, zero, suc, _+_, _-_, _*_, _≤_, _<_, max}
 use native.Mathlib.Nat.{add-zero}
 use native.Mathlib.Omega.{arith}
-use mathlib.Core.Bool.{Bool, true, false, cond, _&&_}
+use mathlib.Core.Bool.{Bool, true, false, cond, _&&_, true≢false}
 use mathlib.Core.List.{List, [], _∷_}
 use mathlib.Core.Logic.{_≢_}
 use mathlib.Core.Path.{_≡_, refl, sym, ap, ap₂, subst, _∙_}
@@ -16,11 +16,11 @@ use Rattle.rules.proofs.TestLaws.{Every}
 use Rattle.rules.proofs.ReadingLaws.{ModuleSound, ItemSound}
 use Rattle.tables.specs.Tables.{kindIn, freeRow, sectionRow, lineIn, startIn, endIn, moduleIn, modulesIn, sectionIn, itemsFromRow, itemsIn}
 use Rattle.state.specs.Good.{Good}
-use Rattle.library.specs.Searching.{Agrees, Few, PlacedRow, Sought}
+use Rattle.library.specs.Searching.{Agrees, Section, PlacedRow, Sought}
 use Rattle.library.specs.declared.taking.Told.{Told}
 use Rattle.library.specs.declared.rounds.Outcome.{Outcome}
 use Rattle.walking.specs.declared.Walked.{Walked}
-use Rattle.walking.specs.Walking.{rowStep, TestedSection, Goes, Went}
+use Rattle.walking.specs.Walking.{rowStep, RowSound, TestedSection, Goes, Went, Stands}
 
 -- ---- the test of a section
 
@@ -59,7 +59,8 @@ unfolding modulesIn
 modules-length parts rows i zero = refl
 modules-length parts rows i (suc n) = ap suc (modules-length parts rows (i + 1) n)
 
-modules-few : (parts rows : List ℕ) (i n : ℕ) → Every ModuleSound (modulesIn parts rows i n) → Few parts rows i n
+modules-few : (parts rows : List ℕ) (i n : ℕ) → Every ModuleSound (modulesIn parts rows i n) →
+    (k : ℕ) → k < n → length (externals (moduleIn parts rows (i + k))) ≤ 64
 unfolding modulesIn
 modules-few parts rows i zero e k l = absurd (omega arith)
 modules-few parts rows i (suc n) e zero l =
@@ -84,8 +85,13 @@ module _ (parts rows : List ℕ) (row first last : ℕ) (start : first ≡ start
     pub section-small : last - first ≤ 256
     section-small = omega (arith, modules-length parts rows first (last - first), members .1)
 
-    pub section-few : Few parts rows first (last - first)
-    section-few = modules-few parts rows first (last - first) (members .0)
+    pub section-fits : Section parts rows first (last - first)
+    section-fits =
+        record {
+          low = omega (arith, start);
+          short = section-small;
+          few = modules-few parts rows first (last - first) (members .0);
+        }
 
 -- ---- an item
 
@@ -125,3 +131,112 @@ went-free parts rows row fault line rounds t before after d =
       most = omega arith;
       does = λ p g. record { agrees = d .does (p .walk) (g .agrees); rounds-are = g .rounds-are };
     }
+
+-- ---- a row
+
+module _ (parts rows : List ℕ) (i fault line rounds : ℕ) (before after : List ℕ) (r : Walked) where
+  pub row-free : kindIn rows i ≡ freeRow → Went (λ p. walkItem p (free (moduleIn parts rows i))) 257 fault line rounds before r after →
+      Went (rowStep parts rows i) 257 fault line rounds before r after
+  unfolding rowStep
+  row-free e w =
+      let on : eqb (kindIn rows i) freeRow ≡ true = eq-eqb (kindIn rows i) freeRow e in
+      record { good = w .good; most = w .most; does = λ p g. rw on (w .does p g) }
+
+  pub row-section : kindIn rows i ≡ sectionRow → Went (λ p. walkItem p (sectionIn parts rows i)) 257 fault line rounds before r after →
+      Went (rowStep parts rows i) 257 fault line rounds before r after
+  unfolding rowStep
+  row-section e w =
+      let off : eqb (kindIn rows i) freeRow ≡ false = ne-eqb (kindIn rows i) freeRow (λ f. absurd (omega (arith, e, f))) in
+      let on : eqb (kindIn rows i) sectionRow ≡ true = eq-eqb (kindIn rows i) sectionRow e in
+      record { good = w .good; most = w .most; does = λ p g. rw (off, on) (w .does p g) }
+
+pub row-member : (parts rows : List ℕ) (i fault line rounds : ℕ) (cells : List ℕ) → kindIn rows i ≢ freeRow → kindIn rows i ≢ sectionRow → Good cells →
+    Went (rowStep parts rows i) 257 fault line rounds cells (record { fault = fault; line = line; rounds = rounds }) cells
+unfolding rowStep
+row-member parts rows i fault line rounds cells nf ns good =
+    let off : eqb (kindIn rows i) freeRow ≡ false = ne-eqb (kindIn rows i) freeRow nf in
+    let shut : eqb (kindIn rows i) sectionRow ≡ false = ne-eqb (kindIn rows i) sectionRow ns in
+    record { good = good; most = omega arith; does = λ p g. rw (off, shut) g }
+
+-- ---- the rows
+
+by-kind : (p : Progress) (one two : Item) (rest : List Item) (f s : Bool) →
+    walkItems p (cond f (one ∷ rest) (cond s (two ∷ rest) rest)) ≡ walkItems (cond f (walkItem p one) (cond s (walkItem p two) p)) rest
+unfolding walkItems
+by-kind p one two rest true s = refl
+by-kind p one two rest false true = refl
+by-kind p one two rest false false = refl
+
+module _ (parts rows : List ℕ) (i n : ℕ) where
+  -- the items from a row on are the row's own and those behind it
+  rest-leads : (p : Progress) → walkItems p (itemsFromRow parts rows i (suc n)) ≡ walkItems (rowStep parts rows i p) (itemsFromRow parts rows (i + 1) n)
+  unfolding itemsFromRow rowStep
+  rest-leads p =
+      by-kind p (free (moduleIn parts rows i)) (sectionIn parts rows i) (itemsFromRow parts rows (i + 1) n)
+      (eqb (kindIn rows i) freeRow) (eqb (kindIn rows i) sectionRow)
+
+every-kind : (one two : Item) (rest : List Item) (f s : Bool) → Every ItemSound (cond f (one ∷ rest) (cond s (two ∷ rest) rest)) →
+    (f ≡ true → ItemSound one) × (f ≡ false → s ≡ true → ItemSound two) × Every ItemSound rest
+every-kind one two rest true s e = (λ _. e .0, λ u. absurd (true≢false u), e .1)
+every-kind one two rest false true e = (λ u. absurd (true≢false (sym u)), λ _ _. e .0, e .1)
+every-kind one two rest false false e = (λ u. absurd (true≢false (sym u)), λ _ u. absurd (true≢false (sym u)), e)
+
+module _ (parts rows : List ℕ) (i n : ℕ) (below : i < n) where
+  -- one row is gone over
+  count-next : n - i ≡ suc (n - (i + 1))
+  count-next = omega arith
+
+  split : Every ItemSound (itemsFromRow parts rows i (n - i)) →
+      (eqb (kindIn rows i) freeRow ≡ true → ItemSound (free (moduleIn parts rows i))) ×
+      (eqb (kindIn rows i) freeRow ≡ false → eqb (kindIn rows i) sectionRow ≡ true → ItemSound (sectionIn parts rows i)) ×
+      Every ItemSound (itemsFromRow parts rows (i + 1) (n - (i + 1)))
+  unfolding itemsFromRow
+  split e =
+      every-kind (free (moduleIn parts rows i)) (sectionIn parts rows i) (itemsFromRow parts rows (i + 1) (n - (i + 1)))
+      (eqb (kindIn rows i) freeRow) (eqb (kindIn rows i) sectionRow)
+      (subst (λ k. Every ItemSound (itemsFromRow parts rows i k)) count-next e)
+
+  pub row-sound : Every ItemSound (itemsFromRow parts rows i (n - i)) → RowSound parts rows i
+  row-sound e =
+      record {
+        free-sound = λ k. split e .0 (eq-eqb (kindIn rows i) freeRow k);
+        section-sound = λ k.
+            split e .1 (ne-eqb (kindIn rows i) freeRow (λ f. absurd (omega (arith, k, f)))) (eq-eqb (kindIn rows i) sectionRow k);
+      }
+
+  pub rest-sound : Every ItemSound (itemsFromRow parts rows i (n - i)) → Every ItemSound (itemsFromRow parts rows (i + 1) (n - (i + 1)))
+  rest-sound e = split e .2
+
+  pub stands-next : (p : Progress) (whole : List Item) (fault line rounds : ℕ) (before after : List ℕ) (r : Walked) →
+      Stands p whole (itemsFromRow parts rows i (n - i)) fault line rounds before →
+      Went (rowStep parts rows i) 257 fault line rounds before r after →
+      Stands p whole (itemsFromRow parts rows (i + 1) (n - (i + 1))) (r .fault) (r .line) (r .rounds) after
+  stands-next p whole fault line rounds before after r s w =
+      record {
+        here = rowStep parts rows i (s .here);
+        goes = w .does (s .here) (s .goes);
+        leads =
+            sym (rest-leads parts rows i (n - (i + 1)) (s .here)) ∙
+            ap (λ k. walkItems (s .here) (itemsFromRow parts rows i k)) (sym count-next) ∙ s .leads;
+      }
+
+-- no row is gone over, and all are
+pub stands-start : (parts rows : List ℕ) (n : ℕ) (p : Progress) (cells : List ℕ) → Goes p 0 0 0 cells →
+    Stands p (itemsIn parts rows n) (itemsFromRow parts rows 0 (n - 0)) 0 0 0 cells
+unfolding itemsIn
+stands-start parts rows n p cells g =
+    let all : n - 0 ≡ n = omega arith in
+    record { here = p; goes = g; leads = ap (λ k. walkItems p (itemsFromRow parts rows 0 k)) all }
+
+pub stands-end : (parts rows : List ℕ) (n i : ℕ) (p : Progress) (whole : List Item) (fault line rounds : ℕ) (cells : List ℕ) → n ≤ i →
+    Stands p whole (itemsFromRow parts rows i (n - i)) fault line rounds cells → Goes (walkItems p whole) fault line rounds cells
+unfolding itemsFromRow walkItems
+stands-end parts rows n i p whole fault line rounds cells l s =
+    let none : 0 ≡ n - i = omega arith in
+    subst (λ q. Goes q fault line rounds cells) (ap (λ k. walkItems (s .here) (itemsFromRow parts rows i k)) none ∙ s .leads) (s .goes)
+
+pub all-sound : (parts rows : List ℕ) (n : ℕ) → Every ItemSound (itemsIn parts rows n) → Every ItemSound (itemsFromRow parts rows 0 (n - 0))
+unfolding itemsIn
+all-sound parts rows n e =
+    let all : n ≡ n - 0 = omega arith in
+    subst (λ k. Every ItemSound (itemsFromRow parts rows 0 k)) all e

@@ -5,6 +5,7 @@ use mathlib.Core.List.{List}
 use mathlib.Core.Path.{_≡_}
 use lib.Dec.{eqb}
 use Rattle.rules.specs.Reading.{Module, Item, free, section}
+use Rattle.rules.proofs.ReadingLaws.{ModuleSound, ItemSound}
 use Rattle.rules.specs.Load.{Walk, Progress, walkItem, walkItems, testSection}
 use Rattle.tables.specs.Tables.{kindIn, freeRow, sectionRow, moduleIn, sectionIn}
 use Rattle.state.specs.Good.{Good}
@@ -32,3 +33,14 @@ pub record Went (change : Progress → Progress) (n fault line rounds : ℕ) (be
   pub good : Good after
   pub most : r .rounds ≤ rounds + n
   pub does : (p : Progress) → Goes p fault line rounds before → Goes (change p) (r .fault) (r .line) (r .rounds) after
+
+-- the item of a row, where the row has one of its own, is sound
+pub record RowSound (parts rows : List ℕ) (i : ℕ) : Type 0 where
+  pub free-sound : kindIn rows i ≡ freeRow → ModuleSound (moduleIn parts rows i)
+  pub section-sound : kindIn rows i ≡ sectionRow → ItemSound (sectionIn parts rows i)
+
+-- a walk that has come so far: from here the items left lead to where all of them lead from p
+pub record Stands (p : Progress) (whole rest : List Item) (fault line rounds : ℕ) (cells : List ℕ) : Type 0 where
+  pub here : Progress
+  pub goes : Goes here fault line rounds cells
+  pub leads : walkItems here rest ≡ walkItems p whole

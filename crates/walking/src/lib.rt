@@ -14,7 +14,7 @@ ghost use Rattle.rules.proofs.TestLaws.{Every};
 ghost use Rattle.rules.proofs.ReadingLaws.{ModuleSound, ItemSound};
 ghost use Rattle.tables.specs.Tables.{lineIn, moduleIn, modulesIn, sectionIn, itemsFromRow, itemsIn};
 ghost use Rattle.state.specs.Good.{Good};
-ghost use Rattle.walking.specs.Walking.{rowStep, TestedSection, Went};
+ghost use Rattle.walking.specs.Walking.{rowStep, RowSound, TestedSection, Went};
 
 // A refusal's number and line, 0 where there is none, and the rounds of the searches so far.
 pub struct Walked {
@@ -95,6 +95,60 @@ fn walk_free(
     Walked {
         fault: t.fault,
         line: t.line,
+        rounds,
+    }
+}
+
+// A row: a free module, a section, or a member, which is gone over with its section.
+fn walk_row(
+    parts: &[u64],
+    rows: &[u64],
+    row: usize,
+    fault: u64,
+    line: u64,
+    rounds: usize,
+    state: &mut [u64],
+) -> Walked
+    requires { ⌜ (row < 131072) × (rounds ≤ 100000000) ⌝ }
+    requires { ⌜ RowSound (now parts) (now rows) row ⌝ }
+    requires { ⌜ Good (now state) ⌝ }
+    ensures { λ r. ⌜ Went (rowStep (now (parts .entry)) (now (rows .entry)) row) 257 fault line rounds (now (state .entry)) r (now (state .exit)) ⌝ }
+{
+    let kind = cell(rows, 2 * row) % 4;
+    if kind == 1 {
+        return walk_free(parts, rows, row, fault, line, rounds, state);
+    }
+    if kind == 3 {
+        return walk_section(parts, rows, row, fault, line, rounds, state);
+    }
+    Walked {
+        fault,
+        line,
+        rounds,
+    }
+}
+
+// The first n rows, in their order.
+pub fn walk(parts: &[u64], rows: &[u64], n: usize, state: &mut [u64]) -> Walked
+    requires { ⌜ n ≤ 131072 ⌝ }
+    requires { ⌜ Every ItemSound (itemsIn (now parts) (now rows) n) ⌝ }
+    requires { ⌜ Good (now state) ⌝ }
+    ensures { λ r. ⌜ Went (λ p. walkItems p (itemsIn (now (parts .entry)) (now (rows .entry)) n)) 33685504 0 0 0 (now (state .entry)) r (now (state .exit)) ⌝ }
+{
+    let mut fault = 0;
+    let mut line = 0;
+    let mut rounds = 0;
+    let mut i = 0;
+    while i < n {
+        let w = walk_row(parts, rows, i, fault, line, rounds, state);
+        fault = w.fault;
+        line = w.line;
+        rounds = w.rounds;
+        i += 1;
+    }
+    Walked {
+        fault,
+        line,
         rounds,
     }
 }

@@ -2,7 +2,7 @@ use Prim.Native.Nat.{_/_, _%_, max}
 use native.Mathlib.Omega.{arith}
 use mathlib.Core.Path.{sym, ap, _∙_}
 use Rattle.tables.specs.Tables.{endIn}
-use Rattle.walking.proofs.WalkingLaws.{section-is, section-small, section-few, went-section}
+use Rattle.walking.proofs.WalkingLaws.{section-is, section-small, section-fits, went-section}
 use borrow.Author.Needs.{needs}
 use Rattle.walking.proofs.walk_section.Statement.{statement}
 use Rattle.walking.proofs.walk_section.Tie as tie
@@ -32,7 +32,7 @@ sub-search : tie.Need-sub-search
 sub-search c = search needs
 
 search-requires : tie.Need-search-requires
-search-requires c κs = (omega arith, (section-small (c .before .before .before .before .before .before .before .args .parts .now) (c .before .before .before .before .before .before .before .args .rows .now) (c .before .before .before .before .before .before .before .args .row) _ (c .before .before .larger .result) (ap (λ b. b % 65536) (c .before .before .before .cell .ensures)) (c .before .before .larger .ensures ∙ ap (λ b. max (b % 65536) (b / 65536)) (c .before .before .before .cell .ensures) ∙ sym (ap (λ b. max b (endIn (c .before .before .before .before .before .before .before .args .rows .now) (c .before .before .before .before .before .before .before .args .row))) (ap (λ b. b % 65536) (c .before .before .before .cell .ensures)))) (c .before .before .before .before .before .before .before .pre .1 .0), (section-few (c .before .before .before .before .before .before .before .args .parts .now) (c .before .before .before .before .before .before .before .args .rows .now) (c .before .before .before .before .before .before .before .args .row) _ (c .before .before .larger .result) (ap (λ b. b % 65536) (c .before .before .before .cell .ensures)) (c .before .before .larger .ensures ∙ ap (λ b. max (b % 65536) (b / 65536)) (c .before .before .before .cell .ensures) ∙ sym (ap (λ b. max b (endIn (c .before .before .before .before .before .before .before .args .rows .now) (c .before .before .before .before .before .before .before .args .row))) (ap (λ b. b % 65536) (c .before .before .before .cell .ensures)))) (c .before .before .before .before .before .before .before .pre .1 .0), c .before .before .before .before .before .before .before .pre .1 .1)))
+search-requires c κs = (section-fits (c .before .before .before .before .before .before .before .args .parts .now) (c .before .before .before .before .before .before .before .args .rows .now) (c .before .before .before .before .before .before .before .args .row) _ (c .before .before .larger .result) (ap (λ b. b % 65536) (c .before .before .before .cell .ensures)) (c .before .before .larger .ensures ∙ ap (λ b. max (b % 65536) (b / 65536)) (c .before .before .before .cell .ensures) ∙ sym (ap (λ b. max b (endIn (c .before .before .before .before .before .before .before .args .rows .now) (c .before .before .before .before .before .before .before .args .row))) (ap (λ b. b % 65536) (c .before .before .before .cell .ensures)))) (c .before .before .before .before .before .before .before .pre .1 .0), c .before .before .before .before .before .before .before .pre .1 .1)
 
 add-t13 : tie.Need-add-t13
 add-t13 c = search needs
