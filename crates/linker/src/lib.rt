@@ -1,13 +1,25 @@
 // The public calls, exported for C and Rust: include/lnk100.h declares them.
 use rules::answer::CallAnswer;
 use rules::answer::EndAnswer;
+use rules::answer::LoadAnswer;
 use rules::answer::MemoryAnswer;
 use rules::answer::SymbolAnswer;
 use rules::answer::UndefinedAnswer;
 ghost use mathlib.Core.Path.{_≡_};
-ghost use Rattle.rules.specs.Calls.{reset, base, force, end, memory, symbols, undefined};
+ghost use lib.ListN.{length};
+ghost use lib.Dec.{eqb};
+ghost use Rattle.rules.specs.Calls.{load, workAfter, reset, base, force, end, memory, symbols, undefined};
 ghost use Rattle.state.specs.Layout.{lent};
 ghost use Rattle.commands.specs.Promise.{Called, Ended};
+ghost use Rattle.loading.specs.Loading.{LoadCalled};
+
+// Work memory has 65,536 cells.
+#[no_mangle]
+pub extern "C" fn lnk100_load(state: &mut [u64], work: &mut [u64], file: &[u8]) -> LoadAnswer
+    ensures { λ r. ⌜ LoadCalled (load (lent (now (state .entry))) (eqb (length (now (work .entry))) 65536) (now (file .entry))) (now (state .entry)) r (now (state .exit)) × (now (work .exit) ≡ workAfter 65536 (now (work .entry))) ⌝ }
+{
+    loading::load(state, work, file)
+}
 
 #[no_mangle]
 pub extern "C" fn lnk100_reset(state: &mut [u64]) -> CallAnswer
