@@ -7,7 +7,7 @@ use std::{env, fs};
 
 const HEADER: &str = "../include/lnk100.h";
 /// Used only as long as the header does not exist.
-const WORK_CELLS_WITHOUT_HEADER: usize = 143_876;
+const WORK_CELLS_WITHOUT_HEADER: usize = 65_536;
 
 fn main() {
     let root = PathBuf::from(env::var("CARGO_MANIFEST_DIR").expect("cargo sets CARGO_MANIFEST_DIR"));

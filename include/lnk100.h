@@ -19,7 +19,7 @@ extern "C" {
 #endif
 
 #define LNK100_STATE_CELLS 8708   /* length of state memory */
-#define LNK100_WORK_CELLS 107012  /* length of work memory */
+#define LNK100_WORK_CELLS 65536  /* length of work memory */
 #define LNK100_FILE_BYTES 65536   /* the longest file */
 #define LNK100_IMAGE_BYTES 45061  /* the longest image: 4,096 words */
 

@@ -4,7 +4,7 @@
 #![allow(dead_code)]
 
 pub const STATE_CELLS: usize = 8708;
-pub const WORK_CELLS: usize = 107_012;
+pub const WORK_CELLS: usize = 65_536;
 pub const IMAGE_BYTES: usize = 45_061;
 
 /// A refusal: document 01's number, and the line of the file where one is named.
