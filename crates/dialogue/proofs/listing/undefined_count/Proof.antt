@@ -1,0 +1,46 @@
+-- `dialogue::listing::undefined_count` is safe and ends. The measure is what is left of the table. Assumes nothing.
+use Prim.Native.Nat.{_≤_, _-_}
+use borrow.Author.Needs.{needs}
+use Rattle.dialogue.proofs.listing.undefined_count.Statement.{statement}
+use Rattle.dialogue.proofs.listing.undefined_count.Tie as tie
+
+abbrev Inv-loop : tie.InvT-loop
+Inv-loop state index₀ index = index ≤ 256
+
+abbrev μ-loop : tie.MeasureT-loop
+μ-loop state index₀ index = 256 - index
+
+loop-holds : tie.Need-loop-holds Inv-loop μ-loop
+loop-holds c = search needs
+
+lnk100-undefined-requires : tie.Need-lnk100-undefined-requires Inv-loop μ-loop
+lnk100-undefined-requires c κs = search needs
+
+returns : tie.Need-returns Inv-loop μ-loop
+returns c = search needs
+
+add-index : tie.Need-add-index Inv-loop μ-loop
+add-index c = search needs
+
+loop-less : tie.Need-loop-less Inv-loop μ-loop
+loop-less c = search needs
+
+loop-again : tie.Need-loop-again Inv-loop μ-loop
+loop-again c = search needs
+
+returns-2 : tie.Need-returns-2 Inv-loop μ-loop
+returns-2 c = search needs
+
+pub undefined-count-spec : {M : Type 1} → statement M
+undefined-count-spec =
+    tie.close
+    (tie.spec
+    Inv-loop
+    μ-loop
+    loop-holds
+    lnk100-undefined-requires
+    returns
+    add-index
+    loop-less
+    loop-again
+    returns-2)

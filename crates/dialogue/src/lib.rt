@@ -1,0 +1,141 @@
+// The dialogue of the program `lnk100` on standard input and output: command lines in, calls of the linker, lines out.
+mod files;
+mod input;
+mod listing;
+mod obey;
+mod page;
+mod refusals;
+
+use input::Reader;
+use input::is_end;
+use input::new_reader;
+use input::read_line;
+use input::text_of;
+use obey::obey;
+use obey::obey_with;
+use page::say;
+
+fn capital(byte: u8) -> u8 {
+    if byte >= 97 {
+        if byte <= 122 {
+            return byte - 32;
+        }
+    }
+    byte
+}
+
+// The command's letter; 0 for a line with no field, and `?` for any other line.
+fn command(text: &[u8]) -> u8 {
+    if text.len() == 0 {
+        return 0;
+    }
+    if text.len() > 1 {
+        return b'?';
+    }
+    let byte = text[0];
+    if byte == 0 {
+        return b'?';
+    }
+    capital(byte)
+}
+
+fn command_of(line: &[u8], r: Reader) -> u8 {
+    if r.is_long {
+        return b'?';
+    }
+    command(text_of(line, r))
+}
+
+fn has_operand(letter: u8) -> bool {
+    match letter {
+        b'B' => true,
+        b'E' => true,
+        b'F' => true,
+        b'L' => true,
+        b'S' => true,
+        b'U' => true,
+        _ => false,
+    }
+}
+
+// The command on its operand, which is the line just read.
+fn with_line(
+    state: &mut [u64],
+    work: &mut [u64],
+    room: &mut [u8],
+    letter: u8,
+    line: &[u8],
+    r: Reader,
+) {
+    if r.is_long {
+        say(b"?\n");
+        return;
+    }
+    let operand = text_of(line, r);
+    if operand.len() == 0 {
+        say(b"?\n");
+        return;
+    }
+    obey_with(state, work, room, letter, operand);
+}
+
+fn quit(mut r: Reader) -> Reader {
+    r.has_quit = true;
+    r
+}
+
+// One command and the prompt behind it.
+fn turn(
+    state: &mut [u64],
+    work: &mut [u64],
+    room: &mut [u8],
+    keys: &mut [u8],
+    line: &mut [u8],
+    last: Reader,
+) -> Reader {
+    let r = read_line(keys, line, last);
+    if is_end(r) {
+        return quit(r);
+    }
+    let letter = command_of(line, r);
+    if letter == b'X' {
+        return quit(r);
+    }
+    if has_operand(letter) {
+        let o = read_line(keys, line, r);
+        with_line(state, work, room, letter, line, o);
+        say(b"*\n");
+        return o;
+    }
+    obey(state, room, letter);
+    say(b"*\n");
+    r
+}
+
+fn talk(state: &mut [u64], work: &mut [u64], room: &mut [u8], keys: &mut [u8], line: &mut [u8]) {
+    let mut r = new_reader();
+    let mut turns = u64::MAX;
+    while turns > 0 && !r.has_quit {
+        r = turn(state, work, room, keys, line, r);
+        turns -= 1;
+    }
+}
+
+// The memory that the calls are lent: 8,708 cells of state and 65,536 of work. room has one byte more than a file may have, and
+// line holds the longest path with a CR.
+pub fn run() {
+    let mut state_cells = [0u64; 8708];
+    let mut work_cells = [0u64; 65536];
+    let mut room_bytes = [0u8; 65537];
+    let mut keys_bytes = [0u8; 4096];
+    let mut line_bytes = [0u8; 4096];
+    let state: &mut [u64] = &mut state_cells;
+    let work: &mut [u64] = &mut work_cells;
+    let room: &mut [u8] = &mut room_bytes;
+    let keys: &mut [u8] = &mut keys_bytes;
+    let line: &mut [u8] = &mut line_bytes;
+    linker::lnk100_reset(state);
+    say(b"LNK100 REL. 1.00\n*\n");
+    talk(state, work, room, keys, line);
+    say(b"END LNK100\n");
+}
