@@ -9,20 +9,19 @@ use mathlib.Core.Path.{_≡_, refl, sym, ap, subst, _∙_}
 use lib.ListN.{length, getD, set, drop, take, length-set, take-append-drop}
 use lib.Seq.{getD-set-same, getD-set-other, drop-length, drop-cons, drop-drop}
 use lib.Dec.{eqb}
-use borrow.Author.Tests.{eqb-true, eqb-false, eq-eqb, ne-eqb}
+use borrow.Author.Tests.{eqb-true, eqb-false, eq-eqb}
 use Rattle.rules.specs.Text.{any}
-use Rattle.rules.specs.Reading.{Module, moduleAt}
-use Rattle.rules.specs.State.{Symbol, State, nameIs, isUndefined}
+use Rattle.rules.specs.Reading.{Module}
+use Rattle.rules.specs.State.{Symbol, nameIs, isUndefined}
 use Rattle.rules.specs.Placing.{placingFault, placed, joined}
 use Rattle.rules.specs.Calls.{bit}
-use Rattle.rules.specs.Load.{Walk, walking, refusedAt, entryNames, wanted, accepted, tryPlace, place}
-use Rattle.rules.proofs.BoolLaws.{never, or-on, or-off, any-append}
-use Rattle.tables.specs.Tables.{startIn, endIn, cellsIn, moduleIn}
+use Rattle.rules.specs.Load.{Walk, walking, refusedAt, entryNames, wanted, tryPlace, place}
+use Rattle.rules.proofs.BoolLaws.{never, or-off, eqb-same, any-append}
+use Rattle.tables.specs.Tables.{moduleIn}
 use Rattle.state.specs.Layout.{decode}
 use Rattle.state.specs.Table.{listed, noSymbol}
 use Rattle.state.specs.declared.table.Listed.{Listed}
-use Rattle.parts.specs.Cells.{partsFrom}
-use Rattle.parts.specs.Passes.{namesIn}
+use Rattle.entries.specs.Index.{named, ownerAt, Indexed, Found, Owns}
 use Rattle.library.specs.Searching.{Agrees, PlacedRow}
 use Rattle.library.specs.Due.{Raised, Idle}
 use Rattle.library.specs.declared.taking.Told.{Told}
@@ -30,174 +29,166 @@ use Rattle.library.proofs.GrowthLaws.{undefined-grown}
 
 -- ---- some name of a list passes a test
 
-any-none : {A : Type 0} (p : A → Bool) → ((x : A) → p x ≡ false) → (xs : List A) → any p xs ≡ false
+-- a test that every name of a list fails
+any-off : (p : ℕ → Bool) (xs : List ℕ) → ((y : ℕ) → any (eqb y) xs ≡ true → p y ≡ false) → any p xs ≡ false
 unfolding any
-any-none p f [] = refl
-any-none p f (x ∷ xs) = rw (f x) (any-none p f xs)
-
--- where two tests fail, so does one that passes only with one of them
-any-neither : {A : Type 0} (p q r : A → Bool) → ((x : A) → p x ≡ true → (q x ≡ true) ⊎ (r x ≡ true)) → (xs : List A) →
-    any q xs ≡ false → any r xs ≡ false → any p xs ≡ false
-unfolding any
-any-neither p q r f [] h k = refl
-any-neither p q r f (x ∷ xs) h k =
-    let a = or-off (q x) (any q xs) h in
-    let b = or-off (r x) (any r xs) k in
-    go (p x) refl (a .0) (b .0) (any-neither p q r f xs (a .1) (b .1))
+any-off p [] f = refl
+any-off p (x ∷ xs) f =
+    let here : (eqb x x || any (eqb x) xs) ≡ true = rw (eqb-same x) in
+    rw (f x here) (any-off p xs (λ y h. f y (more (eqb y x) h)))
   where
-    neither : (q x ≡ true) ⊎ (r x ≡ true) → q x ≡ false → r x ≡ false → any p (x ∷ xs) ≡ false
-    neither (inl e) a b = never e a
-    neither (inr e) a b = never e b
+    more : (b : Bool) {c : Bool} → c ≡ true → (b || c) ≡ true
+    more true e = refl
+    more false e = e
 
-    go : (b : Bool) → p x ≡ b → q x ≡ false → r x ≡ false → any p xs ≡ false → any p (x ∷ xs) ≡ false
-    go true e a b rest = neither (f x e) a b
-    go false e a b rest = rw e rest
+-- a name of a list fails a test that all of them fail
+off-at : (p : ℕ → Bool) (xs : List ℕ) (y : ℕ) → any p xs ≡ false → any (eqb y) xs ≡ true → p y ≡ false
+unfolding any
+off-at p [] y h e = never e refl
+off-at p (x ∷ xs) y h e = go (eqb y x) refl e (or-off (p x) (any p xs) h) (off-at p xs y)
+  where
+    go : (b : Bool) → eqb y x ≡ b → (b || any (eqb y) xs) ≡ true → (p x ≡ false) × (any p xs ≡ false) →
+        (any p xs ≡ false → any (eqb y) xs ≡ true → p y ≡ false) → p y ≡ false
+    go true s e o ih = ap p (eqb-true y x s) ∙ o .0
+    go false s e o ih = ih (o .1) e
 
 -- ---- raised for a name
 
-module _ (parts rows : List ℕ) (first : ℕ) where
-  abbrev namesAt : ℕ → List ℕ
-  namesAt i = entryNames (moduleIn parts rows (first + i))
+module _ {parts index : List ℕ} {name k : ℕ} (f : Found parts index name k) where
+  -- its entry, under whatever name it is asked for
+  same-entry : (y : ℕ) → eqb name y ≡ true → named parts index y ≡ k
+  same-entry y e = ap (named parts index) (sym (eqb-true name y e)) ∙ sym (f .is)
 
-  -- the names of a module, from the cells that are lent
-  pub names-lent : (i : ℕ) {cells : List ℕ} →
-      cells ≡ cellsIn parts (startIn rows (first + i)) (endIn rows (first + i)) → (p : ℕ → Bool) {r : Bool} →
-      r ≡ any p (namesIn (partsFrom cells 0)) → r ≡ any p (namesAt i)
-  unfolding entryNames moduleIn
-  names-lent i q p e = e ∙ ap (λ l. any p (namesIn (partsFrom l 0))) q
+  pub raised-none : {due : List ℕ} → length due ≡ 256 → k ≡ 0 → Raised parts index (eqb name) due due
+  raised-none h z = record { size = h; kept = λ i e. e; told = λ y e n. absurd (n (same-entry y e ∙ z)) }
 
-  pub raised-start : (p : ℕ → Bool) {due : List ℕ} → length due ≡ 256 → Raised parts rows first 0 p due due
-  raised-start p z = record { size = z; kept = λ i e. e; none = λ i h e. absurd (omega arith) }
+  pub raised-set : {due : List ℕ} → length due ≡ 256 → {o : ℕ} → o < 256 → o ≡ ownerAt index (k - 1) →
+      Raised parts index (eqb name) due (set due o 1)
+  raised-set {due} h {o} l q =
+      record {
+        size = length-set due o 1 ∙ h;
+        kept = λ i e. elim (ℕ-discrete i o) [
+          | yes s ↦ absurd (up i s e)
+          | no s ↦ sym (getD-set-other due o i 1 0 s) ∙ e
+        ];
+        told = λ y e n. up _ (ap (λ j. ownerAt index (j - 1)) (same-entry y e) ∙ sym q);
+      }
+    where
+      up : (i : ℕ) → i ≡ o → getD (set due o 1) i 0 ≢ 0
+      up i s e =
+          let one : getD (set due o 1) o 0 ≡ 1 = getD-set-same due o 1 0 (omega (arith, h, l)) in
+          omega (arith, sym one ∙ ap (λ j. getD (set due o 1) j 0) (sym s) ∙ e)
 
-  module _ {i : ℕ} {p : ℕ → Bool} {before due : List ℕ} (w : Raised parts rows first i p before due) where
-    pub raised-left : any p (namesAt i) ≡ false → Raised parts rows first (i + 1) p before due
-    raised-left n =
-        record {
-          size = w .size;
-          kept = w .kept;
-          none = λ k h e. elim (ℕ-discrete k i) [
-            | yes q ↦ ap (λ j. any p (namesAt j)) q ∙ n
-            | no q ↦ w .none k (omega (arith, q)) e
-          ];
-        }
+-- ---- raised for the undefined symbols from a place on
 
-    pub raised-set : i < 256 → Raised parts rows first (i + 1) p before (set due i 1)
-    raised-set l =
-        record {
-          size = length-set due i 1 ∙ w .size;
-          kept = λ k e. elim (ℕ-discrete k i) [
-            | yes q ↦ absurd (up k q e)
-            | no q ↦ w .kept k (sym (getD-set-other due i k 1 0 q) ∙ e)
-          ];
-          none = λ k h e. elim (ℕ-discrete k i) [
-            | yes q ↦ absurd (up k q e)
-            | no q ↦ w .none k (omega (arith, q)) (sym (getD-set-other due i k 1 0 q) ∙ e)
-          ];
-        }
-      where
-        up : (k : ℕ) → k ≡ i → getD (set due i 1) k 0 ≢ 0
-        up k q e =
-            let one : getD (set due i 1) i 0 ≡ 1 = getD-set-same due i 1 0 (omega (arith, w .size)) in
-            omega (arith, sym one ∙ ap (λ j. getD (set due i 1) j 0) (sym q) ∙ e)
+module _ (parts index : List ℕ) (t : List Symbol) (before : List ℕ) where
+  abbrev pub RaisedFrom : ℕ → List ℕ → Type 0
+  RaisedFrom j due = Raised parts index (λ x. isUndefined x (drop j t)) before due
 
-    pub raised-whole : {n : ℕ} → n ≤ i → Raised parts rows first n p before due
-    raised-whole h = record { size = w .size; kept = w .kept; none = λ k l e. w .none k (omega arith) e }
+  pub from-start : (j : ℕ) → j ≡ length t → length before ≡ 256 → RaisedFrom j before
+  unfolding isUndefined any
+  from-start j q z =
+      record {
+        size = z;
+        kept = λ i e. e;
+        told = λ y e. never e (ap (λ k. isUndefined y (drop k t)) q ∙ ap (isUndefined y) (drop-length t));
+      }
 
-  -- ---- raised for the undefined symbols from a place on
+  -- one place less: k goes to j
+  module _ (k : ℕ) (l : k ≤ length t) {from : ℕ} (b : from < k) {due : List ℕ} (v : RaisedFrom k due) where
+    abbrev j : ℕ
+    j = k - 1
 
-  module _ (n : ℕ) (t : List Symbol) (before : List ℕ) where
-    abbrev pub RaisedFrom : ℕ → List ℕ → Type 0
-    RaisedFrom j due = Raised parts rows first n (λ x. isUndefined x (drop j t)) before due
+    h : j < length t
+    h = omega (arith, b, l)
 
-    pub from-start : (j : ℕ) → j ≡ length t → length before ≡ 256 → RaisedFrom j before
+    w : RaisedFrom (suc j) due
+    w = let same : k ≡ suc j = omega (arith, b) in subst (λ i. RaisedFrom i due) same v
+
+    abbrev here : Symbol
+    here = getD t j noSymbol
+
+    undefined-next : (x : ℕ) →
+        isUndefined x (drop j t) ≡ (nameIs x here && not (here .defined) || isUndefined x (drop (suc j) t))
     unfolding isUndefined any
-    from-start j q z =
-        record {
-          size = z;
-          kept = λ i e. e;
-          none = λ i h e. any-none _ (λ x. ap (isUndefined x) (ap (λ k. drop k t) q ∙ drop-length t)) (namesAt i);
-        }
+    undefined-next x = ap (isUndefined x) (drop-cons t j noSymbol h)
 
-    -- one place less: k goes to j
-    module _ (k : ℕ) (l : k ≤ length t) {from : ℕ} (b : from < k) {due : List ℕ} (v : RaisedFrom k due) where
-      abbrev j : ℕ
-      j = k - 1
-
-      h : j < length t
-      h = omega (arith, b, l)
-
-      w : RaisedFrom (suc j) due
-      w = let same : k ≡ suc j = omega (arith, b) in subst (λ i. RaisedFrom i due) same v
-
-      abbrev here : Symbol
-      here = getD t j noSymbol
-
-      undefined-next : (x : ℕ) → isUndefined x (drop j t) ≡ (nameIs x here && not (here .defined) || isUndefined x (drop (suc j) t))
-      unfolding isUndefined any
-      undefined-next x = ap (isUndefined x) (drop-cons t j noSymbol h)
-
-      pub from-defined : {r : Listed} → r ≡ listed here → r .defined ≢ 0 → RaisedFrom j due
-      from-defined {r} s d =
-          record { size = w .size; kept = w .kept; none = λ i l e. any-neither _ _ _ off (namesAt i) (w .none i l e) (w .none i l e) }
-        where
-          off : (x : ℕ) → isUndefined x (drop j t) ≡ true →
-              (isUndefined x (drop (suc j) t) ≡ true) ⊎ (isUndefined x (drop (suc j) t) ≡ true)
-          off x e = inl (go (here .defined) (nameIs x here) refl (sym (undefined-next x) ∙ e))
-            where
-              go : (b c : Bool) → here .defined ≡ b → (c && not b || isUndefined x (drop (suc j) t)) ≡ true →
-                  isUndefined x (drop (suc j) t) ≡ true
-              go true true q f = f
-              go true false q f = f
-              go false c q f = absurd (d (ap (λ (x : Listed). x .defined) s ∙ ap bit q))
-
-      pub from-raised : {r : Listed} → r ≡ listed here → {after : List ℕ} → Raised parts rows first n (eqb (r .name)) due after → RaisedFrom j after
-      from-raised {r} s v =
-          record {
-            size = v .size;
-            kept = λ i e. w .kept i (v .kept i e);
-            none = λ i l e. any-neither _ _ _ on (namesAt i) (v .none i l e) (w .none i l (v .kept i e));
-          }
-        where
-          on : (x : ℕ) → isUndefined x (drop j t) ≡ true →
-              (eqb (r .name) x ≡ true) ⊎ (isUndefined x (drop (suc j) t) ≡ true)
-          on x e = go (nameIs x here) (here .defined) refl (sym (undefined-next x) ∙ e)
-            where
-              go : (b c : Bool) → nameIs x here ≡ b → (b && not c || isUndefined x (drop (suc j) t)) ≡ true →
-                  (eqb (r .name) x ≡ true) ⊎ (isUndefined x (drop (suc j) t) ≡ true)
-              go true c q f = inl (ap (λ (y : Listed). eqb (y .name) x) s ∙ q)
-              go false c q f = inr f
-
-    pub from-end : (j from : ℕ) → j ≤ from → {due : List ℕ} → RaisedFrom j due → RaisedFrom from due
-    unfolding isUndefined
-    from-end j from h w =
-        record { size = w .size; kept = w .kept; none = λ i l e. any-neither _ _ _ on (namesAt i) (w .none i l e) (w .none i l e) }
+    pub from-defined : {r : Listed} → r ≡ listed here → r .defined ≢ 0 → RaisedFrom j due
+    from-defined {r} s d = record { size = w .size; kept = w .kept; told = λ y e. w .told y (off y e) }
       where
-        on : (x : ℕ) → isUndefined x (drop from t) ≡ true → (isUndefined x (drop j t) ≡ true) ⊎ (isUndefined x (drop j t) ≡ true)
-        on x e =
-            let whole : from ≡ j + (from - j) = omega arith in
-            let rest : drop from t ≡ drop (from - j) (drop j t) = ap (λ k. drop k t) whole ∙ sym (drop-drop (from - j) j t) in
-            inl
-            (ap (isUndefined x) (sym (take-append-drop (from - j) (drop j t)))
-            ∙ any-append _ (take (from - j) (drop j t)) (drop (from - j) (drop j t))
-            ∙ or-last (isUndefined x (take (from - j) (drop j t))) (ap (isUndefined x) (sym rest) ∙ e))
-          where
-            or-last : (a : Bool) {b : Bool} → b ≡ true → (a || b) ≡ true
-            or-last true f = refl
-            or-last false f = f
+        go : (y : ℕ) (b c : Bool) → here .defined ≡ b → (c && not b || isUndefined y (drop (suc j) t)) ≡ true →
+            isUndefined y (drop (suc j) t) ≡ true
+        go y true true q f = f
+        go y true false q f = f
+        go y false c q f = absurd (d (ap (λ (x : Listed). x .defined) s ∙ ap bit q))
+
+        off : (y : ℕ) → isUndefined y (drop j t) ≡ true → isUndefined y (drop (suc j) t) ≡ true
+        off y e = go y (here .defined) (nameIs y here) refl (sym (undefined-next y) ∙ e)
+
+    pub from-raised : {r : Listed} → r ≡ listed here → {after : List ℕ} → Raised parts index (eqb (r .name)) due after →
+        RaisedFrom j after
+    from-raised {r} s {after} u =
+        record {
+          size = u .size;
+          kept = λ i e. w .kept i (u .kept i e);
+          told = λ y e n. go y (nameIs y here) (here .defined) refl (sym (undefined-next y) ∙ e) n;
+        }
+      where
+        go : (y : ℕ) (b c : Bool) → nameIs y here ≡ b → (b && not c || isUndefined y (drop (suc j) t)) ≡ true →
+            named parts index y ≢ 0 → getD after (ownerAt index (named parts index y - 1)) 0 ≢ 0
+        go y true c q f n = u .told y (ap (λ (x : Listed). eqb (x .name) y) s ∙ q) n
+        go y false c q f n = λ z. w .told y f n (u .kept _ z)
+
+  pub from-end : (j from : ℕ) → j ≤ from → {due : List ℕ} → RaisedFrom j due → RaisedFrom from due
+  unfolding isUndefined
+  from-end j from h w = record { size = w .size; kept = w .kept; told = λ y e. w .told y (on y e) }
+    where
+      or-last : (a : Bool) {b : Bool} → b ≡ true → (a || b) ≡ true
+      or-last true f = refl
+      or-last false f = f
+
+      on : (x : ℕ) → isUndefined x (drop from t) ≡ true → isUndefined x (drop j t) ≡ true
+      on x e =
+          let whole : from ≡ j + (from - j) = omega arith in
+          let rest : drop from t ≡ drop (from - j) (drop j t) = ap (λ k. drop k t) whole ∙ sym (drop-drop (from - j) j t) in
+          ap (isUndefined x) (sym (take-append-drop (from - j) (drop j t)))
+          ∙ any-append _ (take (from - j) (drop j t)) (drop (from - j) (drop j t))
+          ∙ or-last (isUndefined x (take (from - j) (drop j t))) (ap (isUndefined x) (sym rest) ∙ e)
 
 -- ---- what a clear flag says
 
 module _ (parts rows : List ℕ) (first n : ℕ) where
+  abbrev namesAt : ℕ → List ℕ
+  namesAt i = entryNames (moduleIn parts rows (first + i))
+
+  -- a name of a module whose flag is clear fails the test for which the flags were raised
+  clear-fails : {index : List ℕ} → Owns parts rows first n index → {p : ℕ → Bool} {before due : List ℕ} →
+      Raised parts index p before due → (i : ℕ) → i < n → getD due i 0 ≡ 0 → (y : ℕ) → any (eqb y) (namesAt i) ≡ true →
+      p y ≡ false
+  clear-fails {index} o {p} {before} {due} w i l z y e = go (p y) refl
+    where
+      go : (b : Bool) → p y ≡ b → b ≡ false
+      go true h =
+          let it = o .owned i l y e in
+          absurd (w .told y h (it .there) (ap (λ k. getD due k 0) (it .is) ∙ z))
+      go false h = refl
+
   -- at the start of a section
-  pub idle-start : {fault : ℕ} {cells before due : List ℕ} →
-      Raised parts rows first n (λ x. isUndefined x (drop 0 (decode cells .symbols))) before due →
-      Idle parts rows first n fault cells due
+  pub idle-start : {fault : ℕ} {index cells before due : List ℕ} → Owns parts rows first n index →
+      Raised parts index (λ x. isUndefined x (drop 0 (decode cells .symbols))) before due →
+      Idle parts rows first n fault index cells due
   unfolding wanted
-  idle-start w = record { size = w .size; unwanted = λ z i l e. w .none i l e }
+  idle-start o w =
+      record {
+        size = w .size;
+        owns = λ _. o;
+        unwanted = λ z i l e. any-off _ (namesAt i) (clear-fails o w i l e);
+      }
 
   -- in a walk that is refused already
-  pub idle-refused : {fault : ℕ} {cells due : List ℕ} → length due ≡ 256 → fault ≢ 0 → Idle parts rows first n fault cells due
-  idle-refused z f = record { size = z; unwanted = λ e. absurd (f e) }
+  pub idle-refused : {fault : ℕ} {index cells due : List ℕ} → length due ≡ 256 → fault ≢ 0 →
+      Idle parts rows first n fault index cells due
+  idle-refused z f = record { size = z; owns = λ e. absurd (f e); unwanted = λ e. absurd (f e) }
 
   -- a module that was placed
   placed-symbols : {m : Module} {fault line : ℕ} {before : List ℕ} {r : Told} {after : List ℕ} → fault ≡ 0 →
@@ -227,27 +218,38 @@ module _ (parts rows : List ℕ) (first n : ℕ) where
           (sym (ap (λ (v : Walk). v .number) (tried ∙ told)) ∙ sym (does .number) ∙ e))
 
   -- after a module: its new symbols have raised the flags
-  pub idle-next : {m : Module} {fault line : ℕ} {before : List ℕ} {r : Told} {after due raised : List ℕ} {known : ℕ} →
-      fault ≡ 0 → Idle parts rows first n fault before due → PlacedRow m fault line before r after →
+  pub idle-next : {m : Module} {fault line : ℕ} {before : List ℕ} {r : Told} {index after due raised : List ℕ} {known : ℕ} →
+      fault ≡ 0 → Idle parts rows first n fault index before due → PlacedRow m fault line before r after →
       known ≡ length (decode before .symbols) →
-      Raised parts rows first n (λ x. isUndefined x (drop known (decode after .symbols))) due raised →
-      Idle parts rows first n (r .fault) after raised
+      Raised parts index (λ x. isUndefined x (drop known (decode after .symbols))) due raised →
+      Idle parts rows first n (r .fault) index after raised
   unfolding wanted
-  idle-next {m} {fault} {line} {before} {r} {after} {due} {raised} {known} z d p k v =
+  idle-next {m} {fault} {line} {before} {r} {index} {after} {due} {raised} {known} z d p k v =
       record {
         size = v .size;
-        unwanted =
-            λ e i l q. any-neither _ _ _ (on e) (namesAt parts rows first i) (d .unwanted z i l (v .kept i q)) (v .none i l q);
+        owns = λ _. d .owns z;
+        unwanted = λ e i l q. any-off _ (namesAt i) (λ y h. go e i l q y h (isUndefined y (decode after .symbols)) refl);
       }
     where
-      on : r .fault ≡ 0 → (x : ℕ) → isUndefined x (decode after .symbols) ≡ true →
-          (isUndefined x (decode before .symbols) ≡ true) ⊎ (isUndefined x (drop known (decode after .symbols)) ≡ true)
-      on e x h =
+      grown : r .fault ≡ 0 → (y : ℕ) → isUndefined y (decode after .symbols) ≡ true →
+          (isUndefined y (decode before .symbols) ≡ true) ⊎ (isUndefined y (drop known (decode after .symbols)) ≡ true)
+      grown e y h =
           let s = placed-symbols z p e in
           subst
-          (λ u. (isUndefined x (decode before .symbols) ≡ true) ⊎ (isUndefined x (drop known u) ≡ true))
+          (λ u. (isUndefined y (decode before .symbols) ≡ true) ⊎ (isUndefined y (drop known u) ≡ true))
           (sym s)
           (subst
-          (λ j. (isUndefined x (decode before .symbols) ≡ true) ⊎ (isUndefined x (drop j (joined (decode before .next) m (decode before .symbols))) ≡ true))
+          (λ j. (isUndefined y (decode before .symbols) ≡ true) ⊎ (isUndefined y (drop j (joined (decode before .next) m (decode before .symbols))) ≡ true))
           (sym k)
-          (undefined-grown (decode before .next) m (decode before .symbols) x (ap (isUndefined x) (sym s) ∙ h)))
+          (undefined-grown (decode before .next) m (decode before .symbols) y (ap (isUndefined y) (sym s) ∙ h)))
+
+      either : (i : ℕ) → i < n → getD raised i 0 ≡ 0 → (y : ℕ) → any (eqb y) (namesAt i) ≡ true →
+          (isUndefined y (decode before .symbols) ≡ true) ⊎ (isUndefined y (drop known (decode after .symbols)) ≡ true) → {A : Type 0} → A
+      either i l q y h (inl u) =
+          never u (off-at (λ x. isUndefined x (decode before .symbols)) (namesAt i) y (d .unwanted z i l (v .kept i q)) h)
+      either i l q y h (inr u) = never u (clear-fails (d .owns z) v i l q y h)
+
+      go : r .fault ≡ 0 → (i : ℕ) → i < n → getD raised i 0 ≡ 0 → (y : ℕ) → any (eqb y) (namesAt i) ≡ true →
+          (b : Bool) → isUndefined y (decode after .symbols) ≡ b → b ≡ false
+      go e i l q y h true u = either i l q y h (grown e y u)
+      go e i l q y h false u = refl

@@ -96,13 +96,14 @@ pub fn visit(
     flag: bool,
     fault: u64,
     line: u64,
+    index: &[u64],
     due: &mut [u8],
     state: &mut [u64],
 ) -> Turn
     requires { ⌜ Section (now parts) (now rows) first n × (i < n) ⌝ }
-    requires { ⌜ Idle (now parts) (now rows) first n fault (now state) (now due) ⌝ }
+    requires { ⌜ Idle (now parts) (now rows) first n fault (now index) (now state) (now due) ⌝ }
     requires { ⌜ Good (now state) ⌝ }
-    ensures { λ r. ⌜ Visited (moduleIn (now (parts .entry)) (now (rows .entry)) (first + i)) flag fault line (now (state .entry)) r (now (state .exit)) × Idle (now (parts .entry)) (now (rows .entry)) first n (r .fault) (now (state .exit)) (now (due .exit)) ⌝ }
+    ensures { λ r. ⌜ Visited (moduleIn (now (parts .entry)) (now (rows .entry)) (first + i)) flag fault line (now (state .entry)) r (now (state .exit)) × Idle (now (parts .entry)) (now (rows .entry)) first n (r .fault) (now (index .entry)) (now (state .exit)) (now (due .exit)) ⌝ }
 {
     let row = first + i;
     if !is_due(parts, rows, row, flag, fault, due[i], state) {
@@ -115,7 +116,7 @@ pub fn visit(
     }
     let known = symbol_count(state);
     let t = place_row(parts, rows, row, fault, line, state);
-    raise_from(parts, rows, first, n, known, state, due);
+    raise_from(parts, index, known, state, due);
     Turn {
         flag: true,
         took: 1,
