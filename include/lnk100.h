@@ -1,12 +1,12 @@
 /* lnk100.h: the proved linker's calls, for C and C++. docs/MANUAL.md has the files, the answers and the image.
  *
- *     rt staticlib linker                                   writes target/staticlib/liblinker.a, for x86-64 Linux
- *     cc -Iinclude link.c target/staticlib/liblinker.a      examples/link.c is a whole program
+ *     rt staticlib linker                                            proves and writes the library, for x86-64 Linux
+ *     cc -Iinclude examples/link.c target/staticlib/liblinker.a      a whole program over it
  *
  * A link is: lnk100_reset, lnk100_load for each file in order, lnk100_end.
  *
- * Memory is the caller's; the library has no heap and keeps nothing between calls. State memory holds one link from lnk100_reset on.
- * Work memory is needed during a load alone. Every length counts elements, cells or bytes, and not always bytes.
+ * Memory is the caller's; the library has no heap and keeps nothing between calls. State memory holds one link from lnk100_reset on;
+ * work memory is needed during a load alone. Every length counts elements: cells of state and work memory, bytes of the rest.
  *   - Any content is allowed: state memory that holds no sound state is told as 2 and not used, and nothing outside what is lent is
  *     read or written. A copy of state memory is the same link, so it may be saved and taken back.
  *   - The memories lent to one call must not overlap, and nobody may write them while it runs. A pointer may be null where its length
