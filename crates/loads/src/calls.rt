@@ -3,6 +3,7 @@ use crate::cells::tell_state;
 use crate::print::answer;
 use crate::print::number;
 use crate::print::say;
+use crate::script::number_of;
 use linker::lnk100_base;
 use linker::lnk100_end;
 use linker::lnk100_force;
@@ -11,10 +12,8 @@ use linker::lnk100_reset;
 pub fn reset(state: &mut [u64; 8708]) {
     let before = *state;
     let a = lnk100_reset(state);
-    say(b"RESET");
-    answer(a.number, a.line);
+    answer(b"RESET", a.number, a.line);
     tell_state(&before, state);
-    say(b"\n");
 }
 
 // The title of a run, which starts from a fresh state.
@@ -23,36 +22,30 @@ pub fn start(title: &[u8], state: &mut [u64; 8708]) {
     lnk100_reset(state);
 }
 
-pub fn base(state: &mut [u64; 8708], address: u64) {
+pub fn base(state: &mut [u64; 8708], digits: &[u8]) {
     let before = *state;
-    let a = lnk100_base(state, address);
+    let a = lnk100_base(state, number_of(digits));
     say(b"BASE ");
-    number(address);
-    answer(a.number, a.line);
+    answer(digits, a.number, a.line);
     tell_state(&before, state);
-    say(b"\n");
 }
 
 pub fn force(state: &mut [u64; 8708], name: &[u8]) {
     let before = *state;
     let a = lnk100_force(state, name);
     say(b"FORCE ");
-    say(name);
-    answer(a.number, a.line);
+    answer(name, a.number, a.line);
     tell_state(&before, state);
-    say(b"\n");
 }
 
 pub fn end(state: &mut [u64; 8708]) {
     let before = *state;
     let mut out = [0u8; 512];
     let a = lnk100_end(state, &mut out);
-    say(b"END");
-    answer(a.number, a.line);
+    answer(b"END", a.number, a.line);
     say(b", length ");
     number(a.length);
     tell_state(&before, state);
-    say(b"\n");
 }
 
 // The n-th of 256 names, QAA to QPP.
@@ -69,12 +62,10 @@ fn force_all(state: &mut [u64; 8708], count: u8) {
 }
 
 // FORCE of so many names, at most 255.
-pub fn force_names(state: &mut [u64; 8708], count: u64) {
+pub fn force_names(state: &mut [u64; 8708], digits: &[u8]) {
     let before = *state;
-    force_all(state, (count % 256) as u8);
-    say(b"FORCE of ");
-    number(count % 256);
-    say(b" names");
+    force_all(state, (number_of(digits) % 256) as u8);
+    say(b"FORCE of names, ");
+    say(digits);
     tell_state(&before, state);
-    say(b"\n");
 }

@@ -14,19 +14,25 @@ fn same(a: &[u64; 8708], b: &[u64; 8708]) -> bool {
 }
 
 // Cell 2 of a state is its mark: 0 none, 1 broken, 2 frozen.
-pub fn tell_state(before: &[u64; 8708], after: &[u64; 8708]) {
-    if same(before, after) {
-        say(b"; state same");
-        return;
-    }
+fn same_but_mark(before: &[u64; 8708], after: &[u64; 8708]) -> bool {
     let mut unmarked = *after;
     unmarked[2] = before[2];
-    if same(before, &unmarked) {
-        say(b"; state same but for the mark, now ");
-        number(after[2]);
+    same(before, &unmarked)
+}
+
+// The end of a call's line.
+pub fn tell_state(before: &[u64; 8708], after: &[u64; 8708]) {
+    if same(before, after) {
+        say(b"; state same\n");
         return;
     }
-    say(b"; state changed");
+    if same_but_mark(before, after) {
+        say(b"; state same but for the mark, now ");
+        number(after[2]);
+        say(b"\n");
+        return;
+    }
+    say(b"; state changed\n");
 }
 
 // Where the cells from `from` on that have one value end.

@@ -26,8 +26,7 @@ fn lend_state(cells: &mut [u64], size: usize, work: &mut [u64], file: &[u8]) -> 
 }
 
 fn tell_answer(number_of_answer: u64, line: u64, rounds: u64) {
-    say(b"LOAD");
-    answer(number_of_answer, line);
+    answer(b"LOAD", number_of_answer, line);
     say(b", rounds ");
     number(rounds);
 }
@@ -40,7 +39,6 @@ pub fn load(state: &mut [u64; 8708], size: usize, file: &[u8]) {
     tell_answer(a.number, a.line, a.rounds);
     tell_work(&work, size);
     tell_state(&before, state);
-    say(b"\n");
 }
 
 // LOAD of so many line ends.

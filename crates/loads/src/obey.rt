@@ -35,9 +35,9 @@ fn obey(line: &[u8], state: &mut [u64; 8708], kept: &mut [u64; 8708]) {
         b':' => say(line),
         b'R' => reset(state),
         b'E' => end(state),
-        b'B' => base(state, number_of(operand(line))),
+        b'B' => base(state, operand(line)),
         b'F' => force(state, operand(line)),
-        b'N' => force_names(state, number_of(operand(line))),
+        b'N' => force_names(state, operand(line)),
         b'Z' => load_blank(state, number_of(operand(line)) as usize),
         b'S' => list(state),
         b'M' => list_memory(state),
@@ -57,6 +57,26 @@ fn load_lines(digits: &[u8], state: &mut [u64; 8708], file: &[u8]) {
     load(state, number_of(digits) as usize, file);
 }
 
+// The file under a line L or C. Answers where the line behind the file's stop starts.
+fn play_file(script: &[u8], line: &[u8], next: usize, state: &mut [u64; 8708]) -> usize {
+    let stop = file_end(script, next);
+    let file = between(script, next, stop);
+    if byte(line, 0) == b'C' {
+        load_into(number_of(operand(line)) as usize, file);
+        return next_line(script, stop);
+    }
+    load_lines(operand(line), state, file);
+    next_line(script, stop)
+}
+
+fn has_file(letter: u8) -> bool {
+    match letter {
+        b'C' => true,
+        b'L' => true,
+        _ => false,
+    }
+}
+
 // Answers where the next line of the script starts.
 pub fn play_line(
     script: &[u8],
@@ -66,19 +86,9 @@ pub fn play_line(
 ) -> usize {
     let next = next_line(script, at);
     let line = between(script, at, next);
-    let file = between(script, next, file_end(script, next));
-    match byte(line, 0) {
-        b'L' => {
-            load_lines(operand(line), state, file);
-            next_line(script, file_end(script, next))
-        }
-        b'C' => {
-            load_into(number_of(operand(line)) as usize, file);
-            next_line(script, file_end(script, next))
-        }
-        _ => {
-            obey(line, state, kept);
-            next
-        }
+    if has_file(byte(line, 0)) {
+        return play_file(script, line, next, state);
     }
+    obey(line, state, kept);
+    next
 }

@@ -30,8 +30,9 @@ pub fn byte(b: u8) {
     io::print_hex(STDOUT_FILENO, b as u64, 2);
 }
 
-// The number and the line of an answer.
-pub fn answer(number_of_answer: u64, line: u64) {
+// The name of a call, and the number and the line of its answer.
+pub fn answer(call: &[u8], number_of_answer: u64, line: u64) {
+    say(call);
     say(b": ");
     number(number_of_answer);
     say(b", line ");
