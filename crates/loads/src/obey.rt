@@ -44,7 +44,9 @@ fn obey(line: &[u8], state: &mut [u64; 8708], kept: &mut [u64; 8708]) {
         b'K' => keep(state, kept),
         b'G' => keep(kept, state),
         b'D' => damage(state, number_of(operand(line))),
-        _ => {}
+        b'#' => {}
+        b'\n' => {}
+        _ => say(b"?\n"),
     }
 }
 
