@@ -3,11 +3,11 @@ use crate::cells::tell_state;
 use crate::print::answer;
 use crate::print::number;
 use crate::print::say;
-use crate::script::number_of;
 use linker::lnk100_base;
 use linker::lnk100_end;
 use linker::lnk100_force;
 use linker::lnk100_reset;
+use script::number_of;
 
 pub fn reset(state: &mut [u64; 8708]) {
     let before = *state;

@@ -5,9 +5,9 @@ use crate::cells::tell_work;
 use crate::print::answer;
 use crate::print::number;
 use crate::print::say;
-use crate::script::between;
 use linker::lnk100_load;
 use rules::answer::LoadAnswer;
+use script::between;
 
 // LOAD with the first cells as work memory.
 fn lend_work(state: &mut [u64], work: &mut [u64], size: usize, file: &[u8]) -> LoadAnswer {

@@ -20,7 +20,6 @@ mod listing;
 mod loading;
 mod obey;
 mod print;
-mod script;
 
 use obey::play_line;
 use script::between;

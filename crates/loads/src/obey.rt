@@ -11,12 +11,12 @@ use crate::loading::load;
 use crate::loading::load_blank;
 use crate::loading::load_into;
 use crate::print::say;
-use crate::script::between;
-use crate::script::byte;
-use crate::script::file_end;
-use crate::script::next_line;
-use crate::script::number_of;
-use crate::script::operand;
+use script::between;
+use script::byte;
+use script::file_end;
+use script::next_line;
+use script::number_of;
+use script::operand;
 
 fn keep(state: &[u64; 8708], kept: &mut [u64; 8708]) {
     *kept = *state;

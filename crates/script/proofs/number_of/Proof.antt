@@ -1,9 +1,9 @@
--- `loads::script::number_of` is safe and ends: the measure is what is left of the digits.
+-- `script::number_of` is safe and ends: the measure is what is left of the digits.
 use Prim.Native.Nat.{_-_, _≤_}
 use lib.ListN.{length}
 use borrow.Author.Needs.{needs}
-use Rattle.loads.proofs.script.number_of.Statement.{statement}
-use Rattle.loads.proofs.script.number_of.Tie as tie
+use Rattle.script.proofs.number_of.Statement.{statement}
+use Rattle.script.proofs.number_of.Tie as tie
 
 abbrev Inv-loop : tie.InvT-loop
 Inv-loop digits n₀ i₀ n i = i ≤ length digits
