@@ -1,8 +1,8 @@
--- `readings::build::repeat` is safe and ends: the measure is how many times are left. Assumes nothing.
-use Prim.Native.Nat.{_≤_, _-_}
+-- `readings::build::put_times` ends: the measure is how many times are left.
+use Prim.Native.Nat.{_-_, _≤_}
 use borrow.Author.Needs.{needs}
-use Rattle.readings.proofs.build.repeat.Statement.{statement}
-use Rattle.readings.proofs.build.repeat.Tie as tie
+use Rattle.readings.proofs.build.put_times.Statement.{statement}
+use Rattle.readings.proofs.build.put_times.Tie as tie
 
 abbrev Inv-loop : tie.InvT-loop
 Inv-loop out₀ at text times end₀ k₀ out end k = k ≤ times
@@ -13,8 +13,8 @@ abbrev μ-loop : tie.MeasureT-loop
 loop-holds : tie.Need-loop-holds Inv-loop μ-loop
 loop-holds c = search needs
 
-put-requires : tie.Need-put-requires Inv-loop μ-loop
-put-requires c κs = search needs
+put-escaped-requires : tie.Need-put-escaped-requires Inv-loop μ-loop
+put-escaped-requires c κs = search needs
 
 add-k : tie.Need-add-k Inv-loop μ-loop
 add-k c = search needs
@@ -28,6 +28,7 @@ loop-again c = search needs
 returns : tie.Need-returns Inv-loop μ-loop
 returns c = search needs
 
-pub repeat-spec : {M : Type 1} → statement M
-repeat-spec =
-    tie.close (tie.spec Inv-loop μ-loop loop-holds put-requires add-k loop-less loop-again returns)
+pub put-times-spec : {M : Type 1} → statement M
+put-times-spec =
+    tie.close
+    (tie.spec Inv-loop μ-loop loop-holds put-escaped-requires add-k loop-less loop-again returns)
