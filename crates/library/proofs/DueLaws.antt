@@ -25,7 +25,7 @@ use Rattle.entries.specs.Index.{named, ownerAt, Indexed, Found, Owns}
 use Rattle.library.specs.Searching.{Agrees, PlacedRow}
 use Rattle.library.specs.Due.{Raised, Idle}
 use Rattle.library.specs.declared.taking.Told.{Told}
-use Rattle.library.proofs.GrowthLaws.{undefined-grown}
+use Rattle.library.proofs.GrowthLaws.{or-more, undefined-grown}
 
 -- ---- some name of a list passes a test
 
@@ -35,11 +35,7 @@ unfolding any
 any-off p [] f = refl
 any-off p (x ∷ xs) f =
     let here : (eqb x x || any (eqb x) xs) ≡ true = rw (eqb-same x) in
-    rw (f x here) (any-off p xs (λ y h. f y (more (eqb y x) h)))
-  where
-    more : (b : Bool) {c : Bool} → c ≡ true → (b || c) ≡ true
-    more true e = refl
-    more false e = e
+    rw (f x here) (any-off p xs (λ y h. f y (or-more (eqb y x) h)))
 
 -- a name of a list fails a test that all of them fail
 off-at : (p : ℕ → Bool) (xs : List ℕ) (y : ℕ) → any p xs ≡ false → any (eqb y) xs ≡ true → p y ≡ false
@@ -143,17 +139,13 @@ module _ (parts index : List ℕ) (t : List Symbol) (before : List ℕ) where
   unfolding isUndefined
   from-end j from h w = record { size = w .size; kept = w .kept; told = λ y e. w .told y (on y e) }
     where
-      or-last : (a : Bool) {b : Bool} → b ≡ true → (a || b) ≡ true
-      or-last true f = refl
-      or-last false f = f
-
       on : (x : ℕ) → isUndefined x (drop from t) ≡ true → isUndefined x (drop j t) ≡ true
       on x e =
           let whole : from ≡ j + (from - j) = omega arith in
           let rest : drop from t ≡ drop (from - j) (drop j t) = ap (λ k. drop k t) whole ∙ sym (drop-drop (from - j) j t) in
           ap (isUndefined x) (sym (take-append-drop (from - j) (drop j t)))
           ∙ any-append _ (take (from - j) (drop j t)) (drop (from - j) (drop j t))
-          ∙ or-last (isUndefined x (take (from - j) (drop j t))) (ap (isUndefined x) (sym rest) ∙ e)
+          ∙ or-more (isUndefined x (take (from - j) (drop j t))) (ap (isUndefined x) (sym rest) ∙ e)
 
 -- ---- what a clear flag says
 

@@ -35,7 +35,7 @@ or-map : (a : Bool) {b c : Bool} → (b ≡ true → c ≡ true) → (a || b) �
 or-map true f e = refl
 or-map false f e = f e
 
-or-more : (a : Bool) {b : Bool} → b ≡ true → (a || b) ≡ true
+pub or-more : (a : Bool) {b : Bool} → b ≡ true → (a || b) ≡ true
 or-more true e = refl
 or-more false e = e
 

@@ -18,6 +18,7 @@ use Rattle.tables.specs.Tables.{kindIn, freeRow, sectionRow, lineIn, startIn, e
 use Rattle.state.specs.Good.{Good}
 use Rattle.entries.specs.Index.{size, Tested}
 use Rattle.library.specs.Searching.{Agrees, Section, PlacedRow, Sought}
+use Rattle.library.proofs.SeekLaws.{length-modules}
 use Rattle.library.specs.declared.taking.Told.{Told}
 use Rattle.library.specs.declared.rounds.Outcome.{Outcome}
 use Rattle.walking.specs.declared.Walked.{Walked}
@@ -63,11 +64,6 @@ module _ {parts rows : List ℕ} {first n : ℕ} {index : List ℕ} where
 
 -- ---- a section's rows
 
-modules-length : (parts rows : List ℕ) (i n : ℕ) → length (modulesIn parts rows i n) ≡ n
-unfolding modulesIn
-modules-length parts rows i zero = refl
-modules-length parts rows i (suc n) = ap suc (modules-length parts rows (i + 1) n)
-
 module-sound : (parts rows : List ℕ) (i n : ℕ) → Every ModuleSound (modulesIn parts rows i n) →
     (k : ℕ) → k < n → ModuleSound (moduleIn parts rows (i + k))
 unfolding modulesIn
@@ -95,7 +91,7 @@ module _ (parts rows : List ℕ) (row first last : ℕ) (start : first ≡ start
     members = subst (λ ms. Every ModuleSound ms × (length ms ≤ 256)) (sym section-is) s
 
     pub section-small : last - first ≤ 256
-    section-small = omega (arith, modules-length parts rows first (last - first), members .1)
+    section-small = omega (arith, length-modules parts rows first (last - first), members .1)
 
     pub section-fits : Section parts rows first (last - first)
     section-fits =
