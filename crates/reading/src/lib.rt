@@ -52,7 +52,7 @@ pub fn read_file(file: &[u8], parts: &mut [u64], rows: &mut [u64]) -> FileRead
         let n = line;
         let span = line_from(file, at);
         let wanted = mode.wanted;
-        let answer = line_answer(file, at, span.stop, wanted);
+        let answer = line_answer(file, at, span.stop, span.front, wanted);
         let step = step_of(n, mode, answer);
         at = span.next;
         line += 1;
