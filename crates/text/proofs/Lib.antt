@@ -5,3 +5,4 @@ pub mod FieldLaws
 pub mod MarkerLaws
 pub mod NumberLaws
 pub mod NameLaws
+pub mod DigitLaws
