@@ -5,4 +5,3 @@ pub mod FieldLaws
 pub mod MarkerLaws
 pub mod NumberLaws
 pub mod NameLaws
-pub mod DigitLaws

@@ -14,35 +14,6 @@ pub enum Number {
     NotANumber,
 }
 
-pub fn read_number(field: &[u8]) -> Number
-    ensures { λ r. ⌜ numberIn r ≡ numberOf (now (field .entry)) ⌝ }
-{
-    let n = field.len();
-    if n == 0 {
-        return Number::NotANumber;
-    }
-    if 6 < n {
-        return Number::NotANumber;
-    }
-    let mut value: u32 = 0;
-    let mut i = 0;
-    while i < n {
-        let digit = field[i];
-        if digit < 48 {
-            return Number::NotANumber;
-        }
-        if 55 < digit {
-            return Number::NotANumber;
-        }
-        value = value * 8 + (digit - 48) as u32;
-        i += 1;
-    }
-    if 0o177777 < value {
-        return Number::NotANumber;
-    }
-    Number::Value(value as u16)
-}
-
 // Digits at the front of a text, at most six: their value, and where they end.
 pub struct DigitRun {
     pub value: u32,
@@ -88,6 +59,23 @@ fn as_number(value: u32) -> Number
         return Number::NotANumber;
     }
     Number::Value(value as u16)
+}
+
+pub fn read_number(field: &[u8]) -> Number
+    ensures { λ r. ⌜ numberIn r ≡ numberOf (now (field .entry)) ⌝ }
+{
+    let n = field.len();
+    if n == 0 {
+        return Number::NotANumber;
+    }
+    if 6 < n {
+        return Number::NotANumber;
+    }
+    let run = digits(field, 0, n);
+    if run.end != n {
+        return Number::NotANumber;
+    }
+    as_number(run.value)
 }
 
 // A field as a number, and where the field ends where it starts at the position asked for.

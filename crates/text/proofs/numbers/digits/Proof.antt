@@ -3,7 +3,8 @@
 use Prim.Native.Nat.{_-_}
 use native.Mathlib.Omega.{arith}
 use borrow.Author.Needs.{needs}
-use Rattle.text.proofs.DigitLaws.{Run, run-start, run-room, run-step, run-end}
+use Rattle.text.proofs.ScanLaws.{between-low, between-high}
+use Rattle.text.proofs.NumberLaws.{Run, run-start, run-room, run-step, run-end}
 use Rattle.text.proofs.numbers.digits.Statement.{statement}
 use Rattle.text.proofs.numbers.digits.Tie as tie
 
@@ -23,10 +24,10 @@ shared-slice-read-digit : tie.Need-shared-slice-read-digit Inv-loop μ-loop
 shared-slice-read-digit c = search needs
 
 returns : tie.Need-returns Inv-loop μ-loop
-returns c = run-end (c .before .before .before .loop .inv)
+returns c = run-end (c .before .before .before .loop .inv) (λ h g. between-low 48 55 _ (c .if1 .taken))
 
 returns-2 : tie.Need-returns-2 Inv-loop μ-loop
-returns-2 c = run-end (c .before .before .before .before .loop .inv)
+returns-2 c = run-end (c .before .before .before .before .loop .inv) (λ h g. between-high 48 55 _ (c .if2 .taken))
 
 mul-value : tie.Need-mul-value Inv-loop μ-loop
 mul-value c = omega (arith, run-room (c .before .before .before .before .loop .inv))
@@ -49,7 +50,8 @@ loop-again c =
     (c .before .if1 .left) (c .if2 .left)
 
 returns-3 : tie.Need-returns-3 Inv-loop μ-loop
-returns-3 c = run-end (c .before .loop .inv)
+returns-3 c =
+    run-end (c .before .loop .inv) (λ h g. absurd (omega (arith, c .before .before .six-on .ensures, c .loop-test .left)))
 
 pub digits-spec : {M : Type 1} → statement M
 digits-spec =

@@ -1,7 +1,7 @@
 -- `text::numbers::field_number` meets its contract: digits with a field's end behind them are the field.
 -- Assumes nothing.
 use borrow.Author.Needs.{needs}
-use Rattle.text.proofs.DigitLaws.{line-ends, space-ends}
+use Rattle.text.proofs.NumberLaws.{line-ends, space-ends}
 use Rattle.text.proofs.numbers.field_number.Statement.{statement}
 use Rattle.text.proofs.numbers.field_number.Tie as tie
 
