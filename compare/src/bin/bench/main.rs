@@ -1,6 +1,8 @@
 //! Times the verified linker beside the Rust linker and the floor, and prints the ratios and the growth.
 //!
 //!     bench [RUNS]
+//!     bench --rows                   the numbers of the rows
+//!     bench --play ROW WHO [RUNS]    plays a row on one linker (verified or rust) and times nothing: for a profiler
 
 mod floor;
 mod inputs;
@@ -22,6 +24,7 @@ const SUBJECT: (compare::ffi::Verified, &str) = (compare::ffi::Verified, "verifi
 #[cfg(not(feature = "library"))]
 const SUBJECT: (Lent, &str) = (Lent, "stand-in");
 
+const RUNS: usize = 201;
 const DIVISORS: [usize; 3] = [16, 4, 1];
 /// A row that takes longer than this gets fewer runs, but never fewer than `FEWEST_RUNS`.
 const LONGEST_ROW: Duration = Duration::from_secs(5);
@@ -44,16 +47,46 @@ struct Times {
 }
 
 fn main() -> ExitCode {
-    let runs = match env::args().nth(1).map(|runs| runs.parse()) {
-        None => 201,
-        Some(Ok(runs)) => runs,
-        Some(Err(_)) => {
-            eprintln!("usage: bench [RUNS]");
-            return ExitCode::from(2);
-        }
+    let args: Vec<String> = env::args().skip(1).collect();
+    let args: Vec<&str> = args.iter().map(String::as_str).collect();
+    let done = match args[..] {
+        [] => Some(table(RUNS)),
+        ["--rows"] => Some(ROWS.iter().enumerate().for_each(|(number, row)| println!("{number:2} {}", row.label))),
+        ["--play", row, who] => play(row, who, 1),
+        ["--play", row, who, runs] => runs.parse().ok().and_then(|runs| play(row, who, runs)),
+        [runs] => runs.parse().ok().map(table),
+        _ => None,
     };
+    if done.is_none() {
+        eprintln!("usage: bench [RUNS] | --rows | --play ROW verified|rust [RUNS]");
+        return ExitCode::from(2);
+    }
+    ExitCode::SUCCESS
+}
+
+fn lent_memory() -> Memory {
+    Memory { state: fresh(), work: vec![0; WORK_CELLS], out: vec![0; 11 * PROGRAM_WORDS + 5] }
+}
+
+/// Plays a row at full size on one linker.
+fn play(row: &str, who: &str, runs: usize) -> Option<()> {
+    let row = ROWS.get(row.parse::<usize>().ok()?)?;
+    let calls: &dyn Calls = match who {
+        "verified" => &SUBJECT.0,
+        "rust" => &Lent,
+        _ => return None,
+    };
+    let (input, mut memory) = ((row.input)(1), lent_memory());
+    println!("{}: {}", row.label, input.size);
+    for _ in 0..runs {
+        run_lent(calls, &input, &mut memory);
+    }
+    Some(())
+}
+
+fn table(runs: usize) {
     explain(runs);
-    let mut memory = Memory { state: fresh(), work: vec![0; WORK_CELLS], out: vec![0; 11 * PROGRAM_WORDS + 5] };
+    let mut memory = lent_memory();
     let mut results = Vec::new();
     for row in ROWS {
         let sizes = DIVISORS.map(|divisor| {
@@ -105,7 +138,6 @@ fn main() -> ExitCode {
         }
         println!("    sizes: {}; {}; {}", sizes[0].0, sizes[1].0, sizes[2].0);
     }
-    ExitCode::SUCCESS
 }
 
 fn explain(runs: usize) {
