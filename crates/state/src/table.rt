@@ -3,23 +3,24 @@ use crate::layout::DEFINED;
 use crate::layout::MOST_SYMBOLS;
 use crate::layout::NAMES;
 use crate::layout::VALUES;
-ghost use Prim.Native.Nat.{_<_};
+ghost use Prim.Native.Nat.{_+_, _≤_, _<_};
 ghost use mathlib.Core.Path.{_≡_};
 ghost use lib.ListN.{length, getD};
-ghost use Rattle.rules.specs.State.{isDefined, isUndefined, undefinedOnly};
+ghost use Rattle.rules.specs.State.{placeOf, isDefined, isUndefined, undefinedOnly};
 ghost use Rattle.rules.specs.Image.{valueOf};
 ghost use Rattle.rules.specs.Placing.{define as defined-in, mention as mentioned-in};
-ghost use Rattle.state.specs.Layout.{decode};
+ghost use Rattle.state.specs.Layout.{symbolsFrom, decode};
 ghost use Rattle.state.specs.Good.{Good};
 ghost use Rattle.state.specs.Table.{Place, Joined, MentionedAt, listed, noSymbol, undefinedPlace};
 
-// A symbol's place, the count of symbols where there is none.
-pub fn find(state: &[u64], name: u64) -> usize
+// The place of a name among the symbols from the i-th on, the count of symbols where there is none.
+fn find_from(state: &[u64], name: u64, start: usize) -> usize
     requires { ⌜ Good (now state) ⌝ }
-    ensures { λ r. ⌜ Place name (decode (now (state .entry)) .symbols) r ⌝ }
+    requires { ⌜ start ≤ length (decode (now state) .symbols) ⌝ }
+    ensures { λ r. ⌜ (r ≤ length (decode (now (state .entry)) .symbols)) × (r ≡ start + placeOf name (symbolsFrom (now (state .entry)) start)) ⌝ }
 {
     let n = state[0] as usize;
-    let mut i = 0;
+    let mut i = start;
     while i < n {
         if state[NAMES + i] == name {
             return i;
@@ -27,6 +28,31 @@ pub fn find(state: &[u64], name: u64) -> usize
         i += 1;
     }
     n
+}
+
+// A symbol's place, the count of symbols where there is none. Four names go in one turn: every search of the table comes here.
+pub fn find(state: &[u64], name: u64) -> usize
+    requires { ⌜ Good (now state) ⌝ }
+    ensures { λ r. ⌜ Place name (decode (now (state .entry)) .symbols) r ⌝ }
+{
+    let n = state[0] as usize;
+    let mut i = 0;
+    while 3 < n - i {
+        if state[NAMES + i] == name {
+            return i;
+        }
+        if state[NAMES + i + 1] == name {
+            return i + 1;
+        }
+        if state[NAMES + i + 2] == name {
+            return i + 2;
+        }
+        if state[NAMES + i + 3] == name {
+            return i + 3;
+        }
+        i += 4;
+    }
+    find_from(state, name, i)
 }
 
 pub fn is_defined(state: &[u64], name: u64) -> bool

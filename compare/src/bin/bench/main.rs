@@ -49,19 +49,24 @@ struct Times {
 fn main() -> ExitCode {
     let args: Vec<String> = env::args().skip(1).collect();
     let args: Vec<&str> = args.iter().map(String::as_str).collect();
-    let done = match args[..] {
-        [] => Some(table(RUNS)),
-        ["--rows"] => Some(ROWS.iter().enumerate().for_each(|(number, row)| println!("{number:2} {}", row.label))),
-        ["--play", row, who] => play(row, who, 1),
-        ["--play", row, who, runs] => runs.parse().ok().and_then(|runs| play(row, who, runs)),
-        [runs] => runs.parse().ok().map(table),
-        _ => None,
-    };
-    if done.is_none() {
+    if obey(&args).is_none() {
         eprintln!("usage: bench [RUNS] | --rows | --play ROW verified|rust [RUNS]");
         return ExitCode::from(2);
     }
     ExitCode::SUCCESS
+}
+
+/// `None` where the arguments make no sense.
+fn obey(args: &[&str]) -> Option<()> {
+    match *args {
+        [] => table(RUNS),
+        ["--rows"] => ROWS.iter().enumerate().for_each(|(number, row)| println!("{number:2} {}", row.label)),
+        ["--play", row, who] => play(row, who, 1)?,
+        ["--play", row, who, runs] => play(row, who, runs.parse().ok()?)?,
+        [runs] => table(runs.parse().ok()?),
+        _ => return None,
+    }
+    Some(())
 }
 
 fn lent_memory() -> Memory {
