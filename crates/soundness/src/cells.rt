@@ -10,7 +10,7 @@ ghost use Prim.Native.Nat.{_+_, _<_, _≤_};
 ghost use mathlib.Core.Path.{_≡_};
 ghost use lib.ListN.{length};
 ghost use Rattle.state.specs.Layout.{size};
-ghost use Rattle.soundness.specs.Checks.{headerSound, zeroBetween, valueSound, symbolsSound, unlike, HasMet, Alone, namesDiffer, wordSound, wordsSound};
+ghost use Rattle.soundness.specs.Checks.{headerSound, zeroBetween, valueSound, symbolsSound, unlike, HasMet, Alone, namesDiffer, wordSoundAt, wordsSound};
 
 pub fn header_sound(state: &[u64]) -> bool
     requires { ⌜ length (now state) ≡ size ⌝ }
@@ -122,12 +122,15 @@ pub fn names_differ(state: &[u64], n: usize) -> bool
     true
 }
 
-fn word_sound(n: usize, text: u64, tag: u64) -> bool
-    requires { ⌜ n ≤ 256 ⌝ }
-    ensures { λ r. ⌜ r ≡ wordSound n text tag ⌝ }
+// The word at an address. Its text is read only where no word is placed.
+fn word_sound(state: &[u64], n: usize, address: usize) -> bool
+    requires { ⌜ length (now state) ≡ size ⌝ }
+    requires { ⌜ (n ≤ 256) × (address < 4096) ⌝ }
+    ensures { λ r. ⌜ r ≡ wordSoundAt (now (state .entry)) n address ⌝ }
 {
+    let tag = state[TAGS + address];
     if tag == 0 {
-        return text == 0;
+        return state[TEXTS + address] == 0;
     }
     tag <= n as u64 + 1
 }
@@ -139,7 +142,7 @@ pub fn words_sound(state: &[u64], n: usize) -> bool
 {
     let mut a = 0;
     while a < ADDRESSES {
-        if !word_sound(n, state[TEXTS + a], state[TAGS + a]) {
+        if !word_sound(state, n, a) {
             return false;
         }
         a += 1;

@@ -55,6 +55,47 @@ pub fn find(state: &[u64], name: u64) -> usize
     find_from(state, name, i)
 }
 
+// The same, with a guess that is looked at first. Any number will do as a guess: names differ, so where the name stands, there is
+// its place.
+fn find_by(state: &[u64], name: u64, guess: usize) -> usize
+    requires { ⌜ Good (now state) ⌝ }
+    ensures { λ r. ⌜ Place name (decode (now (state .entry)) .symbols) r ⌝ }
+{
+    let n = state[0] as usize;
+    if n <= guess {
+        return find(state, name);
+    }
+    if state[NAMES + guess] == name {
+        return guess;
+    }
+    find(state, name)
+}
+
+// How many of the table's names are worth a guess, where so many names are to be found: making them costs as much as finding a few.
+fn worth_guessing(state: &[u64], wanted: usize) -> usize
+    requires { ⌜ Good (now state) ⌝ }
+    ensures { λ r. ⌜ r ≤ length (decode (now (state .entry)) .symbols) ⌝ }
+{
+    if wanted < 8 {
+        return 0;
+    }
+    state[0] as usize
+}
+
+// Guesses: by the remainder of a name, the place of one with that remainder.
+pub fn guesses(state: &[u64], wanted: usize) -> [u16; 512]
+    requires { ⌜ Good (now state) ⌝ }
+{
+    let n = worth_guessing(state, wanted);
+    let mut places = [0u16; 512];
+    let mut i = 0;
+    while i < n {
+        places[(state[NAMES + i] % 509) as usize] = i as u16;
+        i += 1;
+    }
+    places
+}
+
 pub fn is_defined(state: &[u64], name: u64) -> bool
     requires { ⌜ Good (now state) ⌝ }
     ensures { λ r. ⌜ r ≡ isDefined name (decode (now (state .entry)) .symbols) ⌝ }
@@ -98,12 +139,12 @@ pub fn define(state: &mut [u64], name: u64, value: u16) -> bool
     true
 }
 
-// An external joins the table undefined, if it is new. The answer is its place; 256, and nothing changes, where the table is full.
-pub fn mention_at(state: &mut [u64], name: u64) -> usize
+// An external joins the table undefined, if it is new. A guess is a place where it may stand. The answer is its place; 256, and nothing changes, where the table is full.
+pub fn mention_at(state: &mut [u64], name: u64, guess: usize) -> usize
     requires { ⌜ Good (now state) ⌝ }
     ensures { λ r. ⌜ MentionedAt name (decode (now (state .entry))) r (now (state .exit)) ⌝ }
 {
-    let at = find(state, name);
+    let at = find_by(state, name, guess);
     let n = state[0] as usize;
     if at < n {
         return at;
@@ -121,7 +162,7 @@ pub fn mention(state: &mut [u64], name: u64) -> bool
     requires { ⌜ Good (now state) ⌝ }
     ensures { λ r. ⌜ Joined (mentioned-in name (decode (now (state .entry)) .symbols)) (decode (now (state .entry))) r (now (state .exit)) ⌝ }
 {
-    mention_at(state, name) < MOST_SYMBOLS
+    mention_at(state, name, 0) < MOST_SYMBOLS
 }
 
 // A symbol as the listings tell it.
