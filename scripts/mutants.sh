@@ -1,6 +1,6 @@
 #!/usr/bin/env bash
 # Plants one error at a time into a copy of the Rust linker, links the copy in place of the verified library, and looks
-# whether differ notices. So it tries the harness and the C interface, and needs no verified library. Some minutes.
+# whether differ notices. So it tries the harness and the C interface, and needs no verified library. A quarter of an hour.
 #
 #   scripts/mutants.sh [WORD]    only mutants whose label has the word
 set -eu
@@ -104,6 +104,19 @@ mutant "unplaced text is sound" memory.rs 's/tag != UNPLACED || text == 0/tag !=
 mutant "work of a refused load kept" lent.rs 's/if work_fits {/if work_fits \&\& outcome.is_ok() {/'
 mutant "short work memory accepted" lent.rs 's/work.len() == WORK_CELLS/work.len() >= WORK_CELLS - 1/'
 mutant "broken mark forgotten" lent.rs 's/state\[MARK\] = BROKEN;/let _ = (BROKEN, MARK);/'
+mutant "overlap not tested" linker.rs 's/if slot.is_some() {/if false \&\& slot.is_some() {/'
+mutant "duplicates of the table not tested" linker.rs 's/if value.is_some() {/if false \&\& value.is_some() {/'
+mutant "relocated entry wraps" linker.rs 's/u16::try_from(usize::from(entry.value) + base).ok()/Some((usize::from(entry.value) + base) as u16)/'
+mutant "HIGH of an empty program is 0" linker.rs 's/0 => NO_ADDRESS,/0 => 0,/'
+mutant "defined symbols counted as undefined" linker.rs '/fn write_image/,/^    }/s/symbol.value.is_none()/symbol.value.is_some()/'
+mutant "END on a broken state" linker.rs '/pub fn end/,/^    }/s/self.refuse_broken()?;//'
+mutant "BASE on a frozen state" linker.rs '/pub fn base/,/^    }/s/self.refuse_frozen()?;//'
+mutant "next address one too far" linker.rs 's/self.next += module.length;/self.next += module.length + usize::from(module.length == 7);/'
+mutant "CR in front of LF kept" text.rs 's/line.strip_suffix(b"\\r").unwrap_or(line)/line/'
+mutant "a library in a library" reader.rs 's/Header::LibraryEnd => return Ok(section),/Header::LibraryStart | Header::LibraryEnd => return Ok(section),/'
+mutant "mark 3 is sound" memory.rs 's/cells\[MARK\] > FROZEN/cells[MARK] > FROZEN + 1/'
+mutant "values above sixteen bits are sound" memory.rs 's/(DEFINED..2 \* DEFINED)/(DEFINED..=2 * DEFINED)/'
+mutant "output cleared behind the image" linker.rs 's/let image = out.get_mut(..length).ok_or(Reason::Out)?;/out.get(..length).ok_or(Reason::Out)?; out.fill(0); let image = \&mut out[..length];/'
 mutant "too long breaks" answer.rs 's/Reason::Line as u64..=/Reason::TooLong as u64..=/'
 
 echo "$tried mutants, $missed not noticed"

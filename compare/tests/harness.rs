@@ -2,7 +2,8 @@
 
 use compare::answer::{Reason, Refusal};
 use compare::calls::*;
-use compare::differ::case;
+use compare::differ::case::{self, Origin};
+use compare::differ::coverage::Column::*;
 use compare::differ::rng::Rng;
 use compare::differ::run::{run, Options};
 use compare::lent::Lent;
@@ -18,12 +19,13 @@ fn options(cases: u64, limits: bool) -> Options {
 #[test]
 fn the_linker_agrees_with_itself() {
     let summary = run(&Lent, &options(150, true)).unwrap_or_else(|found| panic!("{found:?}"));
-    assert_eq!(summary.cases, 150);
-    for number in [0, 1, 2, 3, 4, 5, 6, 7, 8, 9, 10, 11, 12, 13, 14] {
-        assert!(summary.seen.loads[number] > 0, "no LOAD was answered {number}");
-    }
-    for number in [0, 1, 2, 3, 4, 12, 14, 15, 16] {
-        assert!(summary.seen.others[number] > 0, "no other call was answered {number}");
+    assert_eq!(summary.random.cases, 150);
+    // The cases at the limits have every answer of every call, before any random one.
+    let columns = [Force, Base, Reset, Memory, Symbols, Undefined, End];
+    for column in columns.into_iter().chain([Load(Origin::Given)]) {
+        for number in (0..17).filter(|&number| column.can_give(number as u64)) {
+            assert!(summary.limits.coverage.count(column, number) > 0, "{column:?} was never answered {number}");
+        }
     }
 }
 

@@ -1,17 +1,21 @@
 //! Compares the verified linker with the Rust linker on many cases.
 //!
-//!     differ [CASES] [SEED] [--first N] [--seconds S] [--no-limits] [--trace]
+//!     differ [CASES] [SEED] [--first N] [--seconds S] [--no-limits] [--reach-all] [--trace]
+//!     differ --limits
 //!
-//! A failure names its case; `differ 1 SEED --first N --no-limits` plays that one alone.
+//! A failure names its case; `differ 1 SEED --first N --no-limits` plays that one alone. With `--reach-all` it is a failure
+//! too if the random cases miss an answer or a number of rounds. `--limits` lists the cases at the limits and what document
+//! 01 answers them with.
 
 use std::process::ExitCode;
 use std::time::{Duration, Instant};
 use std::{env, fs, path::PathBuf};
 
-use compare::differ::play::Seen;
+use compare::differ::limits;
 use compare::differ::run::{run, Found, Options, Summary};
 
-const USAGE: &str = "usage: differ [CASES] [SEED] [--first N] [--seconds S] [--no-limits] [--trace]";
+const USAGE: &str =
+    "usage: differ [CASES] [SEED] [--first N] [--seconds S] [--no-limits] [--reach-all] [--trace] | --limits";
 
 #[cfg(feature = "library")]
 const SUBJECT: (compare::ffi::Verified, &str) = (compare::ffi::Verified, compare::ffi::ARCHIVE);
@@ -19,7 +23,11 @@ const SUBJECT: (compare::ffi::Verified, &str) = (compare::ffi::Verified, compare
 const SUBJECT: (compare::lent::Lent, &str) = (compare::lent::Lent, "the Rust linker itself, as a stand-in");
 
 fn main() -> ExitCode {
-    let Some(options) = parse(env::args().skip(1)) else {
+    if env::args().skip(1).eq(["--limits"]) {
+        list_limits();
+        return ExitCode::SUCCESS;
+    }
+    let Some((options, reach_all)) = parse(env::args().skip(1)) else {
         eprintln!("{USAGE}");
         return ExitCode::from(2);
     };
@@ -28,7 +36,13 @@ fn main() -> ExitCode {
     match run(&SUBJECT.0, &options) {
         Ok(summary) => {
             report(&summary, start.elapsed());
-            ExitCode::SUCCESS
+            let missing = if reach_all { summary.random.coverage.missing() } else { Vec::new() };
+            missing.iter().for_each(|what| println!("NOT REACHED by the random cases: {what}"));
+            if missing.is_empty() {
+                ExitCode::SUCCESS
+            } else {
+                ExitCode::FAILURE
+            }
         }
         Err(found) => {
             report_failure(&found, options.seed);
@@ -37,7 +51,8 @@ fn main() -> ExitCode {
     }
 }
 
-fn parse(mut args: impl Iterator<Item = String>) -> Option<Options> {
+fn parse(mut args: impl Iterator<Item = String>) -> Option<(Options, bool)> {
+    let mut reach_all = false;
     let mut options = Options { cases: 10_000, seed: 1, first: 0, limits: true, longest: None, trace: false };
     let mut plain = 0;
     while let Some(arg) = args.next() {
@@ -45,6 +60,7 @@ fn parse(mut args: impl Iterator<Item = String>) -> Option<Options> {
             "--first" => options.first = args.next()?.parse().ok()?,
             "--seconds" => options.longest = Some(Duration::from_secs(args.next()?.parse().ok()?)),
             "--no-limits" => options.limits = false,
+            "--reach-all" => reach_all = true,
             "--trace" => options.trace = true,
             _ => {
                 let number = arg.parse().ok()?;
@@ -57,21 +73,33 @@ fn parse(mut args: impl Iterator<Item = String>) -> Option<Options> {
             }
         }
     }
-    Some(options)
+    Some((options, reach_all))
+}
+
+fn list_limits() {
+    for case in limits::all() {
+        println!("{}", case.label);
+        for step in case.steps {
+            if let Some((number, line)) = step.expected {
+                println!("    {:?}: {number} at line {line}", step.call);
+            }
+        }
+    }
 }
 
 fn report(summary: &Summary, time: Duration) {
-    let Summary { cases, limits, seen } = summary;
-    let Seen { calls, loads, others, most_rounds } = seen;
+    let Summary { limits, random } = summary;
     println!(
-        "{limits} cases at the limits and {cases} random ones agree: {calls} calls in {:.1} s",
+        "{} cases at the limits and {} random ones agree: {} calls in {:.1} s",
+        limits.cases,
+        random.cases,
+        limits.coverage.calls + random.coverage.calls,
         time.as_secs_f64()
     );
-    println!("answer      LOAD    others");
-    for (number, (load, other)) in loads.iter().zip(others).enumerate() {
-        println!("{number:6} {load:9} {other:9}");
+    if limits.cases > 0 {
+        println!("\nCases at the limits (LOAD: given files):\n{}", limits.coverage);
     }
-    println!("most rounds of one LOAD: {most_rounds}");
+    println!("\nRandom cases (LOAD: whole, damaged and odd files):\n{}", random.coverage);
 }
 
 fn report_failure(found: &Found, seed: u64) {

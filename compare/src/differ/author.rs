@@ -43,7 +43,9 @@ impl Author {
     pub fn file(&mut self, rng: &mut Rng) -> Draft {
         let mut draft = Draft::default();
         for _ in 0..*rng.pick(&[0, 1, 1, 2, 3, 5]) {
-            if rng.percent(45) {
+            if rng.percent(15) {
+                draft.append(self.chain(rng));
+            } else if rng.percent(45) {
                 draft.append(self.section(rng));
             } else {
                 let entries = self.entry_names(rng);
@@ -70,6 +72,29 @@ impl Author {
             let externals = self.external_names(rng, &inside);
             draft.append(module(rng, entries, &externals));
         }
+        draft.line("7 ***LEB");
+        draft
+    }
+
+    /// A free module that wants the first of a chain, and a library where each module of the chain needs the next: backward,
+    /// so that a round takes one, or in any order.
+    fn chain(&mut self, rng: &mut Rng) -> Draft {
+        let size = if rng.percent(92) { rng.within(1..=20) } else { rng.within(21..=150) };
+        let names: Vec<String> = (0..size).map(|_| self.entry_name(rng)).collect();
+        let mut modules: Vec<Draft> = Vec::new();
+        for i in 0..size {
+            let needs: &[String] = names.get(i + 1..i + 2).unwrap_or_default();
+            // A long chain has nothing beside it, which might be refused before the chain is at its end.
+            modules.push(if size > 20 { lean_module(&names[i], needs) } else { module(rng, &names[i..=i], needs) });
+        }
+        if rng.percent(60) {
+            modules.reverse();
+        } else {
+            rng.shuffle(&mut modules);
+        }
+        let mut draft = module(rng, &[], &names[..1]);
+        draft.line("6 ***LSB");
+        modules.into_iter().for_each(|each| draft.append(each));
         draft.line("7 ***LEB");
         draft
     }
@@ -138,6 +163,21 @@ fn module(rng: &mut Rng, entries: &[String], externals: &[String]) -> Draft {
     blocks.into_iter().for_each(|block| draft.append(block));
     draft.line("1 ***END");
     draft.line(&title);
+    draft
+}
+
+/// A module of one absolute entry.
+fn lean_module(entry: &str, externals: &[String]) -> Draft {
+    let mut draft = Draft::default();
+    for line in ["3 ***TITLE", "T", "4 1 ***ENTRY", &format!("{entry} 0 0")] {
+        draft.line(line);
+    }
+    if !externals.is_empty() {
+        draft.line(format!("5 {:o} ***EXT", externals.len()));
+    }
+    externals.iter().for_each(|name| draft.line(name));
+    draft.line("1 ***END");
+    draft.line("T");
     draft
 }
 

@@ -3,7 +3,7 @@
 use std::fmt;
 
 use super::author::Author;
-use super::damage::damaged;
+use super::damage::{damaged, odd_lines};
 use super::rng::Rng;
 use super::states;
 use crate::memory::{fresh, STATE_CELLS, WORK_CELLS};
@@ -23,11 +23,13 @@ pub struct Step {
     pub state_cells: usize,
     /// The number and line of the answer where the paper gives them, whatever the implementations say.
     pub expected: Option<(u64, u64)>,
+    /// The same of a load's rounds.
+    pub rounds: Option<u64>,
 }
 
 impl From<Call> for Step {
     fn from(call: Call) -> Step {
-        Step { call, state_cells: STATE_CELLS, expected: None }
+        Step { call, state_cells: STATE_CELLS, expected: None, rounds: None }
     }
 }
 
@@ -36,6 +38,7 @@ pub enum Call {
     Load {
         file: Vec<u8>,
         work_cells: usize,
+        origin: Origin,
     },
     Force(Vec<u8>),
     Base(u64),
@@ -50,7 +53,7 @@ pub enum Call {
 
 impl Call {
     pub fn load(file: impl Into<Vec<u8>>) -> Call {
-        Call::Load { file: file.into(), work_cells: WORK_CELLS }
+        Call::Load { file: file.into(), work_cells: WORK_CELLS, origin: Origin::Given }
     }
 
     /// What the call is lent for reading.
@@ -61,6 +64,19 @@ impl Call {
             _ => &[],
         }
     }
+}
+
+/// Where the file of a LOAD comes from.
+#[derive(Clone, Copy, Debug, PartialEq, Eq)]
+pub enum Origin {
+    /// Written out in a case at a limit.
+    Given,
+    /// Drawn at random, every line of it well formed and every block in its place.
+    Whole,
+    /// A whole one, damaged.
+    Damaged,
+    /// No file at all, or nearly.
+    Odd,
 }
 
 /// An index, also relative to the end of the list that the state has when the call is made.
@@ -80,7 +96,7 @@ pub enum Room {
 impl fmt::Debug for Call {
     fn fmt(&self, f: &mut fmt::Formatter<'_>) -> fmt::Result {
         match self {
-            Call::Load { file, work_cells } => write!(f, "LOAD of {} bytes, work {work_cells}", file.len()),
+            Call::Load { file, work_cells, .. } => write!(f, "LOAD of {} bytes, work {work_cells}", file.len()),
             Call::Force(name) => write!(f, "FORCE {:?}", String::from_utf8_lossy(name)),
             Call::Base(address) => write!(f, "BASE {address}"),
             Call::Reset => write!(f, "RESET"),
@@ -121,11 +137,12 @@ pub fn random(rng: &mut Rng) -> Case {
 
 /// A call, and the chance in percent that a reset follows: little can be seen behind a refused load.
 fn random_call(author: &mut Author, rng: &mut Rng) -> (Call, usize) {
-    let load = |file: Vec<u8>, rng: &mut Rng| Call::Load { file, work_cells: random_length(rng, WORK_CELLS) };
+    let load =
+        |file: Vec<u8>, origin, rng: &mut Rng| Call::Load { file, work_cells: random_length(rng, WORK_CELLS), origin };
     let call = match rng.below(100) {
-        0..35 => return (load(author.file(rng).laid_out(rng), rng), 10),
-        35..50 => return (load(damaged(&author.file(rng), rng), rng), 85),
-        50..52 => return (load(odd_file(rng), rng), 50),
+        0..35 => return (load(author.file(rng).laid_out(rng), Origin::Whole, rng), 10),
+        35..50 => return (load(damaged(&author.file(rng), rng), Origin::Damaged, rng), 85),
+        50..52 => return (load(odd_file(rng), Origin::Odd, rng), 50),
         52..66 => Call::Force(random_forced(author, rng)),
         66..74 => Call::Base(random_base(rng)),
         74..76 => Call::Reset,
@@ -148,10 +165,11 @@ fn random_length(rng: &mut Rng, right: usize) -> usize {
 }
 
 fn odd_file(rng: &mut Rng) -> Vec<u8> {
-    match rng.below(4) {
+    match rng.below(6) {
         0 => vec![b'\n'; rng.within(65_530..=65_540)],
         1 => (0..rng.below(200)).map(|_| rng.next() as u8).collect(),
         2 => (0..rng.below(200)).map(|_| *rng.pick(b"0123456789* \n\rABE")).collect(),
+        3 | 4 => odd_lines(rng).tidy(),
         _ => vec![*rng.pick(b" \n\r0A\0"); rng.below(100)],
     }
 }

@@ -105,6 +105,13 @@ pub fn damaged(draft: &Draft, rng: &mut Rng) -> Vec<u8> {
     file
 }
 
+/// Lines of all kinds in no order.
+pub fn odd_lines(rng: &mut Rng) -> Draft {
+    let mut draft = Draft::default();
+    (0..rng.within(1..=8)).for_each(|_| draft.line(*rng.pick(ODD_LINES)));
+    draft
+}
+
 fn damage_draft(draft: &mut Draft, rng: &mut Rng) {
     if draft.lines.is_empty() {
         draft.line(*rng.pick(ODD_LINES));

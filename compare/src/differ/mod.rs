@@ -3,6 +3,7 @@
 
 pub mod author;
 pub mod case;
+pub mod coverage;
 pub mod damage;
 pub mod draft;
 pub mod limits;

@@ -3,11 +3,14 @@
 use std::fmt;
 
 use super::case::{Call, Case, Index, Room, Step};
+use super::coverage::{Column, Coverage};
 use super::rng::Rng;
 use crate::calls::{CallAnswer, Calls, EndAnswer, LoadAnswer, MemoryAnswer, SymbolAnswer, UndefinedAnswer};
 use crate::lent::Lent;
 use crate::linker::{MOST_SYMBOLS, PROGRAM_WORDS};
 use crate::memory::*;
+use crate::object::Item;
+use crate::reader;
 
 const LONGEST_IMAGE: usize = 11 * PROGRAM_WORDS + 5;
 
@@ -25,15 +28,6 @@ impl fmt::Display for Failure {
     fn fmt(&self, f: &mut fmt::Formatter<'_>) -> fmt::Result {
         write!(f, "step {}: {}: {}", self.step, self.call, self.what)
     }
-}
-
-/// How often each answer was seen, so that a run shows what it reached.
-#[derive(Clone, Debug, Default)]
-pub struct Seen {
-    pub calls: u64,
-    pub loads: [u64; 17],
-    pub others: [u64; 17],
-    pub most_rounds: u64,
 }
 
 /// An answer of any call.
@@ -153,13 +147,13 @@ pub struct Player<'a> {
     reference: Side<'a>,
     subject: Side<'a>,
     junk: Rng,
-    pub seen: Seen,
+    pub coverage: Coverage,
 }
 
 impl<'a> Player<'a> {
     pub fn new(subject: &'a dyn Calls) -> Player<'a> {
         let (reference, subject) = (Side::new(&Lent), Side::new(subject));
-        Player { reference, subject, junk: Rng::new(0), seen: Seen::default() }
+        Player { reference, subject, junk: Rng::new(0), coverage: Coverage::default() }
     }
 
     /// Plays the steps and then looks at the end state with every call that reads it.
@@ -239,14 +233,20 @@ impl<'a> Player<'a> {
 
         let expected = self.reference.call(&call);
         let answer = self.subject.call(&call);
-        self.note(answer);
+        let noted = self.note(&step.call, answer);
 
         if answer != expected {
             return Err(format!("answered {answer:?}, the Rust linker {expected:?}"));
         }
+        noted?;
         let (number, line, _) = answer.parts();
         if step.expected.is_some_and(|expected| expected != (number, line)) {
             return Err(format!("both answered {number} at line {line}, the paper says {:?}", step.expected));
+        }
+        if let (Some(rounds), Answer::Load(load)) = (step.rounds, answer) {
+            if load.rounds != rounds {
+                return Err(format!("both answered {} rounds, the paper says {rounds}", load.rounds));
+            }
         }
         if bytes != step.call.bytes() {
             return Err("wrote into the bytes that were lent for reading".into());
@@ -296,18 +296,24 @@ impl<'a> Player<'a> {
         }
     }
 
-    fn note(&mut self, answer: Answer) {
-        self.seen.calls += 1;
+    /// Counts the answer. Whatever the Rust linker says, it must be one that document 01 has for the call.
+    fn note(&mut self, call: &Call, answer: Answer) -> Result<(), String> {
+        let Some(column) = Column::of(call) else { return Ok(()) };
         let (number, _, _) = answer.parts();
-        let list = if let Answer::Load(load) = answer {
-            self.seen.most_rounds = self.seen.most_rounds.max(load.rounds);
-            &mut self.seen.loads
-        } else {
-            &mut self.seen.others
-        };
-        if let Some(count) = list.get_mut(number as usize) {
-            *count += 1;
+        self.coverage.note(column, number);
+        match answer {
+            Answer::Load(LoadAnswer { number: 0, rounds, .. }) => {
+                self.coverage.note_rounds(rounds, sections_of(call.bytes()));
+            }
+            Answer::Symbol(SymbolAnswer { none: 1, .. }) | Answer::Undefined(UndefinedAnswer { none: 1, .. }) => {
+                self.coverage.note_past_end(column);
+            }
+            _ => {}
         }
+        if !column.can_give(number) {
+            return Err(format!("{number} is no answer of this call"));
+        }
+        Ok(())
     }
 
     fn compare_memory(&self, call: &ResolvedCall) -> Result<(), String> {
@@ -335,9 +341,6 @@ impl<'a> Player<'a> {
         let (number, _, rest_is_zero) = answer.parts();
         let after = self.subject.state.view();
         let refused = number != 0;
-        if number > 16 {
-            return Err(format!("{number} is not on the list of answers"));
-        }
         if refused && !rest_is_zero {
             return Err(format!("a refused answer has more than a number and a line: {answer:?}"));
         }
@@ -379,6 +382,11 @@ fn same<T: PartialEq + fmt::Debug>(what: &str, found: &[T], expected: &[T]) -> R
         Some(place) => Err(format!("{what} {place} is {:?}, and should be {:?}", found[place], expected[place])),
         None => Err(format!("{what}s: {} of them, and should be {}", found.len(), expected.len())),
     }
+}
+
+/// How many library sections a file has.
+fn sections_of(file: &[u8]) -> usize {
+    reader::read(file).map_or(0, |items| items.iter().filter(|item| matches!(item, Item::Section(_))).count())
 }
 
 fn symbols_in(state: &[u64]) -> u64 {

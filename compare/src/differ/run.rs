@@ -3,8 +3,9 @@
 use std::time::{Duration, Instant};
 
 use super::case::{self, Case};
+use super::coverage::Coverage;
 use super::limits;
-use super::play::{Failure, Player, Seen};
+use super::play::{Failure, Player};
 use super::rng::Rng;
 use crate::calls::Calls;
 
@@ -23,11 +24,17 @@ pub struct Options {
     pub trace: bool,
 }
 
+/// What agreed, the cases at the limits and the random ones apart.
 #[derive(Debug)]
 pub struct Summary {
+    pub limits: Part,
+    pub random: Part,
+}
+
+#[derive(Debug, Default)]
+pub struct Part {
     pub cases: u64,
-    pub limits: usize,
-    pub seen: Seen,
+    pub coverage: Coverage,
 }
 
 /// A failure and the case that it was met in.
@@ -42,7 +49,7 @@ pub struct Found {
 pub fn run(subject: &dyn Calls, options: &Options) -> Result<Summary, Box<Found>> {
     let start = Instant::now();
     let mut player = Player::new(subject);
-    let mut limits = 0;
+    let mut limits = Part::default();
     if options.limits {
         for case in limits::all() {
             if options.trace {
@@ -50,10 +57,11 @@ pub fn run(subject: &dyn Calls, options: &Options) -> Result<Summary, Box<Found>
             }
             let outcome = player.play(&case, &mut Rng::new(options.seed));
             outcome.map_err(|failure| Box::new(Found { number: None, case, failure }))?;
-            limits += 1;
+            limits.cases += 1;
         }
+        limits.coverage = std::mem::take(&mut player.coverage);
     }
-    let mut cases = 0;
+    let mut random = Part::default();
     for number in options.first..options.first.saturating_add(options.cases) {
         if options.longest.is_some_and(|longest| start.elapsed() > longest) {
             break;
@@ -69,7 +77,8 @@ pub fn run(subject: &dyn Calls, options: &Options) -> Result<Summary, Box<Found>
         }
         let outcome = player.play(&case, &mut rng);
         outcome.map_err(|failure| Box::new(Found { number: Some(number), case, failure }))?;
-        cases += 1;
+        random.cases += 1;
     }
-    Ok(Summary { cases, limits, seen: player.seen })
+    random.coverage = player.coverage;
+    Ok(Summary { limits, random })
 }

@@ -2,12 +2,13 @@
 ghost use mathlib.Core.Path.{_≡_};
 ghost use lib.ListN.{length, replicate};
 
-// All cells of one slice into another of the same length.
+// All cells of one slice into another of the same length. The target's length is counted: where that is an array's, the compiler
+// knows it, and sees that what the array held before is never read.
 pub fn copy(source: &[u64], target: &mut [u64])
     requires { ⌜ length (now source) ≡ length (now target) ⌝ }
     ensures { λ r. ⌜ now (target .exit) ≡ now (source .entry) ⌝ }
 {
-    let n = source.len();
+    let n = target.len();
     let mut i = 0;
     while i < n {
         target[i] = source[i];

@@ -6,7 +6,7 @@ use native.Mathlib.Nat.{add-assoc}
 use mathlib.Core.List.{List, [], _∷_, _++_, append-assoc, append-nil}
 use mathlib.Core.Path.{_≡_, refl, sym, ap, ap₂, _∙_}
 use lib.ListN.{length, take, drop, set, length-append, length-take, length-drop}
-use lib.Seq.{take-at, drop-at, drop-drop, set-split, length-take-le, drop-append-add}
+use lib.Seq.{take-append-le, take-take, take-at, drop-at, drop-drop, set-split, length-take-le, drop-append-add}
 use Rattle.rules.specs.Image.{two, quarters, wordRecord}
 use Rattle.image.specs.Output.{overlay}
 
@@ -49,6 +49,19 @@ overlay-append at xs ys out h =
     ∙ append-assoc (take at out) xs (ys ++ drop (at + length (xs ++ ys)) out)
     ∙ ap (λ l. take at out ++ l) (sym (append-assoc xs ys (drop (at + length (xs ++ ys)) out)))
 
+-- the same, the piece behind written first
+pub overlay-before : (at : ℕ) (xs ys out : List ℕ) → at + length xs ≤ length out → overlay at xs (overlay (at + length xs) ys out) ≡ overlay at (xs ++ ys) out
+unfolding overlay
+overlay-before at xs ys out h =
+    let k : ℕ = at + length xs in
+    let front : take at (overlay k ys out) ≡ take at out =
+    take-append-le at (take k out) (ys ++ drop (k + length ys) out) (omega (arith, length-take-le k out h)) ∙ take-take at k out (omega arith) in
+    let behind : drop k (overlay k ys out) ≡ ys ++ drop (at + length (xs ++ ys)) out =
+    drop-at (take k out) (ys ++ drop (k + length ys) out) k (length-take-le k out h)
+    ∙ ap (λ n. ys ++ drop n out) (add-assoc at (length xs) (length ys) ∙ ap (λ n. at + n) (sym (length-append xs ys))) in
+    ap₂ {A = List ℕ} {B = List ℕ} (λ a b. a ++ (xs ++ b)) front behind
+    ∙ ap (λ l. take at out ++ l) (sym (append-assoc xs ys (drop (at + length (xs ++ ys)) out)))
+
 -- one byte
 pub overlay-set : (at v : ℕ) (out : List ℕ) → at < length out → set out at v ≡ overlay at (v ∷ []) out
 unfolding overlay
@@ -87,11 +100,8 @@ puts-all at v vs out h =
     ap (λ l. puts l at 1 vs) (overlay-set at v out (omega arith)) ∙ puts-behind at vs (v ∷ []) out 1 refl (omega arith)
 
 -- eight bytes of a word, as its quarters are written
-pub word-bytes : (a w : ℕ)
-    → 0x57
-    ∷ a / 256 % 256
-    ∷ a % 256
-    ∷ w / 72057594037927936 % 256
+pub quarter-bytes : (w : ℕ)
+    → w / 72057594037927936 % 256
     ∷ w / 281474976710656 % 256
     ∷ w / 1099511627776 % 256
     ∷ w / 4294967296 % 256
@@ -100,9 +110,9 @@ pub word-bytes : (a w : ℕ)
     ∷ w / 256 % 256
     ∷ w % 256
     ∷ []
-    ≡ wordRecord a w
-unfolding wordRecord quarters two
-word-bytes a w =
+    ≡ quarters w
+unfolding quarters two
+quarter-bytes w =
     let a₁ : w / 72057594037927936 % 256 ≡ w / 281474976710656 / 256 % 256 = omega arith in
     let a₂ : w / 1099511627776 % 256 ≡ w / 4294967296 / 256 % 256 = omega arith in
     let a₃ : w / 16777216 % 256 ≡ w / 65536 / 256 % 256 = omega arith in

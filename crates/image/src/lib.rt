@@ -4,31 +4,49 @@ use state::table::symbol_at;
 use state::table::undefined_count;
 use state::words::tag;
 use state::words::text;
+ghost use mathlib.Core.List.{_∷_};
 ghost use mathlib.Core.Path.{_≡_};
 ghost use Prim.Native.Nat.{_+_, _≤_, _<_};
 ghost use lib.ListN.{length, getD};
 ghost use Rattle.rules.specs.State.{high as high-in, placedWords, unplaced};
-ghost use Rattle.rules.specs.Image.{two, wordRecord, endRecord, valueOf, completed, imageOf};
+ghost use Rattle.rules.specs.Image.{two, quarters, wordRecord, endRecord, valueOf, completed, imageOf};
 ghost use Rattle.state.specs.Layout.{decode};
 ghost use Rattle.state.specs.Good.{Good};
 ghost use Rattle.image.specs.Output.{overlay, endBytes, recordAt, wordsOf, Written, PlacedTag};
 
-// A word's record: its kind, its address and its four quarters, the high bytes first.
-fn put_word(out: &mut [u8], at: usize, address: u64, word: u64)
-    requires { ⌜ at + 11 ≤ length (now out) ⌝ }
-    ensures { λ r. ⌜ now (out .exit) ≡ overlay at (wordRecord address word) (now (out .entry)) ⌝ }
+// A word's four quarters, the high bytes first. The eight bytes stand alone in a function, so that the compiler makes one store of
+// them.
+fn put_quarters(out: &mut [u8], at: usize, word: u64)
+    requires { ⌜ at + 8 ≤ length (now out) ⌝ }
+    ensures { λ r. ⌜ now (out .exit) ≡ overlay at (quarters word) (now (out .entry)) ⌝ }
+{
+    out[at] = (word / 72_057_594_037_927_936 % 256) as u8;
+    out[at + 1] = (word / 281_474_976_710_656 % 256) as u8;
+    out[at + 2] = (word / 1_099_511_627_776 % 256) as u8;
+    out[at + 3] = (word / 4_294_967_296 % 256) as u8;
+    out[at + 4] = (word / 16_777_216 % 256) as u8;
+    out[at + 5] = (word / 65536 % 256) as u8;
+    out[at + 6] = (word / 256 % 256) as u8;
+    out[at + 7] = (word % 256) as u8;
+}
+
+// The front of a word's record: its kind and its address.
+fn put_head(out: &mut [u8], at: usize, address: u64)
+    requires { ⌜ at + 3 ≤ length (now out) ⌝ }
+    ensures { λ r. ⌜ now (out .exit) ≡ overlay at (0x57 ∷ two address) (now (out .entry)) ⌝ }
 {
     out[at] = 0x57;
     out[at + 1] = (address / 256 % 256) as u8;
     out[at + 2] = (address % 256) as u8;
-    out[at + 3] = (word / 72_057_594_037_927_936 % 256) as u8;
-    out[at + 4] = (word / 281_474_976_710_656 % 256) as u8;
-    out[at + 5] = (word / 1_099_511_627_776 % 256) as u8;
-    out[at + 6] = (word / 4_294_967_296 % 256) as u8;
-    out[at + 7] = (word / 16_777_216 % 256) as u8;
-    out[at + 8] = (word / 65536 % 256) as u8;
-    out[at + 9] = (word / 256 % 256) as u8;
-    out[at + 10] = (word % 256) as u8;
+}
+
+// A word's record. The quarters go first: behind the front's stores theirs would not be made one.
+fn put_word(out: &mut [u8], at: usize, address: u64, word: u64)
+    requires { ⌜ at + 11 ≤ length (now out) ⌝ }
+    ensures { λ r. ⌜ now (out .exit) ≡ overlay at (wordRecord address word) (now (out .entry)) ⌝ }
+{
+    put_quarters(out, at + 3, word);
+    put_head(out, at, address);
 }
 
 // The end record: its kind, HIGH and the number of undefined symbols.

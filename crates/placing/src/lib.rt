@@ -11,6 +11,7 @@ use parts::tests::out_of_range;
 use parts::tests::survey;
 use state::header::next_address;
 use state::header::set_next;
+use state::table::guesses;
 ghost use Prim.Native.Nat.{_≤_};
 ghost use lib.ListN.{length};
 ghost use Rattle.rules.specs.Reading.{moduleAt};
@@ -46,7 +47,7 @@ pub fn place(parts: &[u64], state: &mut [u64]) -> u64
     if fault != 0 {
         return fault;
     }
-    let places = mention_all(parts, state);
+    let places = mention_all(parts, guesses(state, extent.externals), state);
     if !places.room {
         return 14;
     }

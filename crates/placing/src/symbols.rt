@@ -74,7 +74,8 @@ pub struct Places {
     pub at: [u16; 64],
 }
 
-pub fn mention_all(parts: &[u64], state: &mut [u64]) -> Places
+// The guesses are those of the table as it is before.
+pub fn mention_all(parts: &[u64], guesses: [u16; 512], state: &mut [u64]) -> Places
     requires { ⌜ length (externalsIn (partsOf (now parts))) ≤ 64 ⌝ }
     requires { ⌜ Good (now state) ⌝ }
     ensures { λ r. ⌜ Mentioned (externalsIn (partsOf (now (parts .entry)))) (decode (now (state .entry))) r (now (state .exit)) ⌝ }
@@ -88,7 +89,8 @@ pub fn mention_all(parts: &[u64], state: &mut [u64]) -> Places
         let name = parts[i + 1];
         i += 2;
         if head % 8 == 3 {
-            let place = mention_at(state, name);
+            let guess = guesses[(name % 509) as usize] as usize;
+            let place = mention_at(state, name, guess);
             if place == 256 {
                 return Places { room: false, at };
             }

@@ -1,3 +1,4 @@
+pub mod MetLaws
 pub mod NameLaws
 pub mod CheckLaws
 pub mod SoundLaws

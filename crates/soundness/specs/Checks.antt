@@ -1,9 +1,9 @@
 -- Soundness as tests on cells, one for each function of src/.
-use Prim.Native.Nat.{ℕ, _+_}
+use Prim.Native.Nat.{ℕ, _+_, _%_}
 use mathlib.Core.Bool.{Bool, true, false, cond, not, _&&_, _||_}
 use mathlib.Core.List.{List}
 use mathlib.Core.Path.{_≡_}
-use lib.ListN.{getD}
+use lib.ListN.{length, getD}
 use lib.Dec.{eqb, leb}
 use Rattle.rules.specs.Text.{all, between, isLetterOrDigit, isPacked}
 use Rattle.rules.specs.Calls.{Lent, wrongLength, damaged, holding}
@@ -51,6 +51,23 @@ differsAt cells n i = unlike cells (getD cells (namesAt + i) 0) (i + 1) n
 
 unfoldable pub namesDiffer : List ℕ → ℕ → Bool
 namesDiffer cells n = all (differsAt cells n) (range 0 n)
+
+-- has the filter met the remainder of x; of symbol j's name
+abbrev pub isMet : List ℕ → ℕ → Bool
+isMet met x = not (eqb (getD met (x % 3989) 0) 0)
+
+abbrev pub metAt : List ℕ → List ℕ → ℕ → Bool
+metAt cells met j = isMet met (getD cells (namesAt + j) 0)
+
+-- a filter that has met the names from place i on, below n
+pub record HasMet (cells : List ℕ) (n i : ℕ) (met : List ℕ) : Type 0 where
+  pub size : length met ≡ 4096
+  pub each : all (metAt cells met) (range i n) ≡ true
+
+-- how the test of symbol i leaves the filter
+pub record Alone (cells : List ℕ) (n i : ℕ) (r : Bool) (met : List ℕ) : Type 0 where
+  pub is : r ≡ differsAt cells n i
+  pub has : HasMet cells n i met
 
 -- an unplaced word is 0, and a reference names one of n symbols
 unfoldable pub wordSound : ℕ → ℕ → ℕ → Bool

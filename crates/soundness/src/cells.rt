@@ -6,11 +6,11 @@ use state::layout::NAMES;
 use state::layout::TAGS;
 use state::layout::TEXTS;
 use state::layout::VALUES;
-ghost use Prim.Native.Nat.{_≤_};
+ghost use Prim.Native.Nat.{_+_, _<_, _≤_};
 ghost use mathlib.Core.Path.{_≡_};
 ghost use lib.ListN.{length};
 ghost use Rattle.state.specs.Layout.{size};
-ghost use Rattle.soundness.specs.Checks.{headerSound, zeroBetween, valueSound, symbolsSound, unlike, namesDiffer, wordSound, wordsSound};
+ghost use Rattle.soundness.specs.Checks.{headerSound, zeroBetween, valueSound, symbolsSound, unlike, HasMet, Alone, namesDiffer, wordSoundAt, wordsSound};
 
 pub fn header_sound(state: &[u64]) -> bool
     requires { ⌜ length (now state) ≡ size ⌝ }
@@ -88,27 +88,49 @@ fn unlike_from(state: &[u64], x: u64, i: usize, n: usize) -> bool
     true
 }
 
+// Is the name of symbol i that of no later one? The filter has met the remainders of the names behind it, and meets that of this
+// one. Only where it had met it already the names behind are looked through.
+fn stands_alone(state: &[u64], i: usize, n: usize, met: &mut [u8]) -> bool
+    requires { ⌜ length (now state) ≡ size ⌝ }
+    requires { ⌜ (i < n) × (n ≤ 256) ⌝ }
+    requires { ⌜ HasMet (now state) n (i + 1) (now met) ⌝ }
+    ensures { λ r. ⌜ Alone (now (state .entry)) n i r (now (met .exit)) ⌝ }
+{
+    let name = state[NAMES + i];
+    let h = (name % 3989) as usize;
+    if met[h] == 0 {
+        met[h] = 1;
+        return true;
+    }
+    unlike_from(state, name, i + 1, n)
+}
+
+// From the last name to the first.
 pub fn names_differ(state: &[u64], n: usize) -> bool
     requires { ⌜ length (now state) ≡ size ⌝ }
     requires { ⌜ n ≤ 256 ⌝ }
     ensures { λ r. ⌜ r ≡ namesDiffer (now (state .entry)) n ⌝ }
 {
-    let mut i = 0;
-    while i < n {
-        if !unlike_from(state, state[NAMES + i], i + 1, n) {
+    let mut met = [0u8; 4096];
+    let mut i = n;
+    while 0 < i {
+        i -= 1;
+        if !stands_alone(state, i, n, &mut met) {
             return false;
         }
-        i += 1;
     }
     true
 }
 
-fn word_sound(n: usize, text: u64, tag: u64) -> bool
-    requires { ⌜ n ≤ 256 ⌝ }
-    ensures { λ r. ⌜ r ≡ wordSound n text tag ⌝ }
+// The word at an address. Its text is read only where no word is placed.
+fn word_sound(state: &[u64], n: usize, address: usize) -> bool
+    requires { ⌜ length (now state) ≡ size ⌝ }
+    requires { ⌜ (n ≤ 256) × (address < 4096) ⌝ }
+    ensures { λ r. ⌜ r ≡ wordSoundAt (now (state .entry)) n address ⌝ }
 {
+    let tag = state[TAGS + address];
     if tag == 0 {
-        return text == 0;
+        return state[TEXTS + address] == 0;
     }
     tag <= n as u64 + 1
 }
@@ -120,7 +142,7 @@ pub fn words_sound(state: &[u64], n: usize) -> bool
 {
     let mut a = 0;
     while a < ADDRESSES {
-        if !word_sound(n, state[TEXTS + a], state[TAGS + a]) {
+        if !word_sound(state, n, a) {
             return false;
         }
         a += 1;

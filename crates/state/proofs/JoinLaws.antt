@@ -1,19 +1,20 @@
 -- Tables of symbols, without cells: where a name stands, and how a symbol joins.
 use Prim.Native.Nat.{ℕ, zero, suc, _+_, _^_, _≤_, _<_, max}
-use mathlib.Core.Bool.{Bool, true, false, cond, not, _&&_, _||_}
+use mathlib.Core.Bool.{Bool, true, false, cond, not, _&&_, _||_, or-true}
 use mathlib.Core.List.{List, [], _∷_}
 use mathlib.Core.Logic.{_≢_}
 use mathlib.Core.Path.{_≡_, refl, sym, ap, _∙_}
-use native.Mathlib.Nat.{not-suc-le-zero}
+use native.Mathlib.Nat.{not-suc-le-zero, le-of-suc-le-suc}
 use native.Mathlib.Numerals.{add-one}
 use native.Mathlib.Omega.{arith}
-use borrow.Author.Tests.{ltb-true, ltb-false, lt-ltb, eqb-true, eqb-false, ne-eqb, not-true}
+use borrow.Author.Tests.{ltb-true, ltb-false, lt-ltb, eqb-true, eqb-false, eq-eqb, ne-eqb, not-true}
 use lib.ListN.{length, getD}
 use lib.Dec.{eqb, ltb}
 use Rattle.rules.specs.Text.{all, any}
 use Rattle.rules.specs.State.{Symbol, symbol, nameIs, isSymbol, placeOf, differentNames, Word, unplaced, plain, refers, soundWord, State}
 use Rattle.rules.specs.Placing.{define, mention}
 use Rattle.rules.specs.Calls.{withSymbols}
+use Rattle.rules.proofs.BoolLaws.{never}
 use Rattle.state.specs.Good.{soundValue, Tidy}
 use Rattle.state.specs.Table.{noSymbol}
 use Rattle.state.proofs.BoolLaws.{both, first, second, neither, not-first, not-second, or-false}
@@ -56,6 +57,26 @@ place-most x (s ∷ t) = go (eqb (s .name) x) (place-most x t)
     go : (b : Bool) → placeOf x t ≤ length t → cond b 0 (placeOf x t + 1) ≤ suc (length t)
     go true e = omega arith
     go false e = omega arith
+
+-- where a name stands, there is its place, since no other symbol has it
+pub place-there : (t : List Symbol) (x i : ℕ) → differentNames t ≡ true → i < length t → getD t i noSymbol .name ≡ x → placeOf x t ≡ i
+unfolding differentNames placeOf isSymbol any
+place-there [] x i d h e = absurd (not-suc-le-zero h)
+place-there (s ∷ t) x zero d h e = rw (eq-eqb (s .name) x e)
+place-there (s ∷ t) x (suc i) d h e =
+    go (eqb (s .name) x) refl (place-there t x i (second (not (any (nameIs (s .name)) t)) (differentNames t) d) (le-of-suc-le-suc h) e)
+  where
+    stands : (r : List Symbol) (k : ℕ) → k < length r → getD r k noSymbol .name ≡ x → any (nameIs x) r ≡ true
+    stands [] k l q = absurd (not-suc-le-zero l)
+    stands (u ∷ r) zero l q = rw (eq-eqb (u .name) x q)
+    stands (u ∷ r) (suc k) l q = rw (stands r k (le-of-suc-le-suc l) q) (or-true (eqb (u .name) x))
+
+    go : (b : Bool) → eqb (s .name) x ≡ b → placeOf x t ≡ i → cond b 0 (placeOf x t + 1) ≡ suc i
+    go true q rest =
+        never
+        (first (not (any (nameIs (s .name)) t)) (differentNames t) d)
+        (ap (λ (y : ℕ). not (any (nameIs y) t)) (eqb-true (s .name) x q) ∙ ap not (stands t i (le-of-suc-le-suc h) e))
+    go false q rest = omega (arith, rest)
 
 -- a table only grows
 pub define-length : (x v : ℕ) (t : List Symbol) → length (define x v t) ≡ max (length t) (placeOf x t + 1)

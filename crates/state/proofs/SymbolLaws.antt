@@ -113,3 +113,19 @@ module _ {cells : List ℕ} (g : Good cells) (i : ℕ) (h : i < getD cells 0 0) 
   pub value-defined : getD cells (260 + i) 0 ≢ 0 → valueOf (decode cells .symbols) i ≡ getD cells (260 + i) 0 - 65536
   unfolding valueOf
   value-defined e = rw (symbol-is cells i h, ne-eqb _ _ e)
+
+-- ---- a search that has come to place k, where the name is at `whole`
+
+module _ (cells : List ℕ) (x whole : ℕ) where
+  abbrev pub Sought : ℕ → Type 0
+  Sought k = k + placeOf x (symbolsFrom cells k) ≡ whole
+
+  module _ (k a : ℕ) (at : a ≡ 4 + k) (h : k < getD cells 0 0) (s : Sought k) where
+    pub sought-here : getD cells a 0 ≡ x → k ≡ whole
+    sought-here e = omega (arith, s, place-found cells k x h (ap (λ (j : ℕ). getD cells j 0) (sym at) ∙ e))
+
+    pub sought-on : (k′ : ℕ) → k′ ≡ k + 1 → getD cells a 0 ≢ x → Sought k′
+    sought-on k′ q e =
+        let one : placeOf x (symbolsFrom cells k) ≡ placeOf x (symbolsFrom cells (k + 1)) + 1 =
+        place-on cells k x h (λ f. e (ap (λ (j : ℕ). getD cells j 0) at ∙ f)) in
+        rw q (omega (arith, s, one))

@@ -20,7 +20,7 @@ use Rattle.state.proofs.ListLaws.{put, length-put, map-put, set-padded}
 use Rattle.state.proofs.RegionLaws.{flat, set-name, set-value}
 use Rattle.state.proofs.LayoutLaws.{table-long, holds, good-holds, count-is, symbol-is, unused-value}
 use Rattle.state.proofs.BoolLaws.{both}
-use Rattle.state.proofs.JoinLaws.{define-put, mention-known, mention-new, put-tidy, at-place, at-no-place}
+use Rattle.state.proofs.JoinLaws.{place-there, define-put, mention-known, mention-new, put-tidy, at-place, at-no-place}
 
 -- ---- a symbol stored at a place of the table, or just behind it
 
@@ -182,6 +182,14 @@ module _ {cells : List ℕ} (g : Good cells) {x i : ℕ} (p : Place x (decode ce
         mentioned-there h
         (subst (λ (r : List ℕ). Joined (mention x t) (decode cells) true (set r 0 (i + 1))) (kept h)
         (as-mentioned true _ (put-behind 0 false refl h b)))
+
+-- ---- a place that was guessed
+
+pub guessed : {cells : List ℕ} → Good cells → (x i : ℕ) → i < getD cells 0 0 → getD cells (4 + i) 0 ≡ x → Place x (decode cells .symbols) i
+guessed {cells} g x i h e =
+    let few : i < length (decode cells .symbols) = omega (arith, count-is cells) in
+    let there = place-there (decode cells .symbols) x i (g .tidy .different) few (ap (λ (s : Symbol). s .name) (symbol-is cells i h) ∙ e) in
+    record { most = omega arith; is = sym there }
 
 -- ---- asking for a name
 

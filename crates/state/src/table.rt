@@ -3,23 +3,24 @@ use crate::layout::DEFINED;
 use crate::layout::MOST_SYMBOLS;
 use crate::layout::NAMES;
 use crate::layout::VALUES;
-ghost use Prim.Native.Nat.{_<_};
+ghost use Prim.Native.Nat.{_+_, _≤_, _<_};
 ghost use mathlib.Core.Path.{_≡_};
 ghost use lib.ListN.{length, getD};
-ghost use Rattle.rules.specs.State.{isDefined, isUndefined, undefinedOnly};
+ghost use Rattle.rules.specs.State.{placeOf, isDefined, isUndefined, undefinedOnly};
 ghost use Rattle.rules.specs.Image.{valueOf};
 ghost use Rattle.rules.specs.Placing.{define as defined-in, mention as mentioned-in};
-ghost use Rattle.state.specs.Layout.{decode};
+ghost use Rattle.state.specs.Layout.{symbolsFrom, decode};
 ghost use Rattle.state.specs.Good.{Good};
 ghost use Rattle.state.specs.Table.{Place, Joined, MentionedAt, listed, noSymbol, undefinedPlace};
 
-// A symbol's place, the count of symbols where there is none.
-pub fn find(state: &[u64], name: u64) -> usize
+// The place of a name among the symbols from the i-th on, the count of symbols where there is none.
+fn find_from(state: &[u64], name: u64, start: usize) -> usize
     requires { ⌜ Good (now state) ⌝ }
-    ensures { λ r. ⌜ Place name (decode (now (state .entry)) .symbols) r ⌝ }
+    requires { ⌜ start ≤ length (decode (now state) .symbols) ⌝ }
+    ensures { λ r. ⌜ (r ≤ length (decode (now (state .entry)) .symbols)) × (r ≡ start + placeOf name (symbolsFrom (now (state .entry)) start)) ⌝ }
 {
     let n = state[0] as usize;
-    let mut i = 0;
+    let mut i = start;
     while i < n {
         if state[NAMES + i] == name {
             return i;
@@ -27,6 +28,72 @@ pub fn find(state: &[u64], name: u64) -> usize
         i += 1;
     }
     n
+}
+
+// A symbol's place, the count of symbols where there is none. Four names go in one turn: every search of the table comes here.
+pub fn find(state: &[u64], name: u64) -> usize
+    requires { ⌜ Good (now state) ⌝ }
+    ensures { λ r. ⌜ Place name (decode (now (state .entry)) .symbols) r ⌝ }
+{
+    let n = state[0] as usize;
+    let mut i = 0;
+    while 3 < n - i {
+        if state[NAMES + i] == name {
+            return i;
+        }
+        if state[NAMES + i + 1] == name {
+            return i + 1;
+        }
+        if state[NAMES + i + 2] == name {
+            return i + 2;
+        }
+        if state[NAMES + i + 3] == name {
+            return i + 3;
+        }
+        i += 4;
+    }
+    find_from(state, name, i)
+}
+
+// The same, with a guess that is looked at first. Any number will do as a guess: names differ, so where the name stands, there is
+// its place.
+fn find_by(state: &[u64], name: u64, guess: usize) -> usize
+    requires { ⌜ Good (now state) ⌝ }
+    ensures { λ r. ⌜ Place name (decode (now (state .entry)) .symbols) r ⌝ }
+{
+    let n = state[0] as usize;
+    if n <= guess {
+        return find(state, name);
+    }
+    if state[NAMES + guess] == name {
+        return guess;
+    }
+    find(state, name)
+}
+
+// How many of the table's names are worth a guess, where so many names are to be found: making them costs as much as finding a few.
+fn worth_guessing(state: &[u64], wanted: usize) -> usize
+    requires { ⌜ Good (now state) ⌝ }
+    ensures { λ r. ⌜ r ≤ length (decode (now (state .entry)) .symbols) ⌝ }
+{
+    if wanted < 8 {
+        return 0;
+    }
+    state[0] as usize
+}
+
+// Guesses: by the remainder of a name, the place of one with that remainder.
+pub fn guesses(state: &[u64], wanted: usize) -> [u16; 512]
+    requires { ⌜ Good (now state) ⌝ }
+{
+    let n = worth_guessing(state, wanted);
+    let mut places = [0u16; 512];
+    let mut i = 0;
+    while i < n {
+        places[(state[NAMES + i] % 509) as usize] = i as u16;
+        i += 1;
+    }
+    places
 }
 
 pub fn is_defined(state: &[u64], name: u64) -> bool
@@ -72,12 +139,12 @@ pub fn define(state: &mut [u64], name: u64, value: u16) -> bool
     true
 }
 
-// An external joins the table undefined, if it is new. The answer is its place; 256, and nothing changes, where the table is full.
-pub fn mention_at(state: &mut [u64], name: u64) -> usize
+// An external joins the table undefined, if it is new. A guess is a place where it may stand. The answer is its place; 256, and nothing changes, where the table is full.
+pub fn mention_at(state: &mut [u64], name: u64, guess: usize) -> usize
     requires { ⌜ Good (now state) ⌝ }
     ensures { λ r. ⌜ MentionedAt name (decode (now (state .entry))) r (now (state .exit)) ⌝ }
 {
-    let at = find(state, name);
+    let at = find_by(state, name, guess);
     let n = state[0] as usize;
     if at < n {
         return at;
@@ -95,7 +162,7 @@ pub fn mention(state: &mut [u64], name: u64) -> bool
     requires { ⌜ Good (now state) ⌝ }
     ensures { λ r. ⌜ Joined (mentioned-in name (decode (now (state .entry)) .symbols)) (decode (now (state .entry))) r (now (state .exit)) ⌝ }
 {
-    mention_at(state, name) < MOST_SYMBOLS
+    mention_at(state, name, 0) < MOST_SYMBOLS
 }
 
 // A symbol as the listings tell it.

@@ -1,9 +1,12 @@
 //! Times the verified linker beside the Rust linker and the floor, and prints the ratios and the growth.
 //!
 //!     bench [RUNS]
+//!     bench --rows                   the numbers of the rows
+//!     bench --play ROW WHO [RUNS]    plays a row on one linker (verified or rust) and times nothing: for a profiler
 
 mod floor;
 mod inputs;
+mod tables;
 
 use std::hint::black_box;
 use std::process::ExitCode;
@@ -22,6 +25,7 @@ const SUBJECT: (compare::ffi::Verified, &str) = (compare::ffi::Verified, "verifi
 #[cfg(not(feature = "library"))]
 const SUBJECT: (Lent, &str) = (Lent, "stand-in");
 
+const RUNS: usize = 201;
 const DIVISORS: [usize; 3] = [16, 4, 1];
 /// A row that takes longer than this gets fewer runs, but never fewer than `FEWEST_RUNS`.
 const LONGEST_ROW: Duration = Duration::from_secs(5);
@@ -34,6 +38,12 @@ struct Memory {
     out: Vec<u8>,
 }
 
+/// A row of the table, measured: its three sizes in words, and the times.
+struct Measured {
+    label: &'static str,
+    sizes: [(String, Times); 3],
+}
+
 /// Medians of the runs of one input.
 struct Times {
     subject: Duration,
@@ -44,16 +54,51 @@ struct Times {
 }
 
 fn main() -> ExitCode {
-    let runs = match env::args().nth(1).map(|runs| runs.parse()) {
-        None => 201,
-        Some(Ok(runs)) => runs,
-        Some(Err(_)) => {
-            eprintln!("usage: bench [RUNS]");
-            return ExitCode::from(2);
-        }
+    let args: Vec<String> = env::args().skip(1).collect();
+    let args: Vec<&str> = args.iter().map(String::as_str).collect();
+    if obey(&args).is_none() {
+        eprintln!("usage: bench [RUNS] | --rows | --play ROW verified|rust [RUNS]");
+        return ExitCode::from(2);
+    }
+    ExitCode::SUCCESS
+}
+
+/// `None` where the arguments make no sense.
+fn obey(args: &[&str]) -> Option<()> {
+    match *args {
+        [] => table(RUNS),
+        ["--rows"] => ROWS.iter().enumerate().for_each(|(number, row)| println!("{number:2} {}", row.label)),
+        ["--play", row, who] => play(row, who, 1)?,
+        ["--play", row, who, runs] => play(row, who, runs.parse().ok()?)?,
+        [runs] => table(runs.parse().ok()?),
+        _ => return None,
+    }
+    Some(())
+}
+
+fn lent_memory() -> Memory {
+    Memory { state: fresh(), work: vec![0; WORK_CELLS], out: vec![0; 11 * PROGRAM_WORDS + 5] }
+}
+
+/// Plays a row at full size on one linker.
+fn play(row: &str, who: &str, runs: usize) -> Option<()> {
+    let row = ROWS.get(row.parse::<usize>().ok()?)?;
+    let calls: &dyn Calls = match who {
+        "verified" => &SUBJECT.0,
+        "rust" => &Lent,
+        _ => return None,
     };
+    let (input, mut memory) = ((row.input)(1), lent_memory());
+    println!("{}: {}", row.label, input.size);
+    for _ in 0..runs {
+        run_lent(calls, &input, &mut memory);
+    }
+    Some(())
+}
+
+fn table(runs: usize) {
     explain(runs);
-    let mut memory = Memory { state: fresh(), work: vec![0; WORK_CELLS], out: vec![0; 11 * PROGRAM_WORDS + 5] };
+    let mut memory = lent_memory();
     let mut results = Vec::new();
     for row in ROWS {
         let sizes = DIVISORS.map(|divisor| {
@@ -61,67 +106,29 @@ fn main() -> ExitCode {
             let times = measure(&input, &mut memory, runs);
             (input.size, times)
         });
-        results.push((row.label, sizes));
+        results.push(Measured { label: row.label, sizes });
     }
-
-    let name = SUBJECT.1;
-    println!("\nMedians in microseconds, at full size:\n");
-    println!(
-        "{:42} {name:>9} {:>9} {:>9} {:>9} {:>9} {:>9} {:>9} {:>5}  size",
-        "", "Rust", "Rust own", "floor", "/ Rust", "/ floor", "Rust/fl.", "runs"
-    );
-    for (label, [.., (size, times)]) in &results {
-        let Times { subject, rust, own, floor, runs } = times;
-        println!(
-            "{label:42} {:9.1} {:9.1} {:9.1} {:9.1} {:9.2} {:9.2} {:9.2} {runs:5}  {size}",
-            micros(*subject),
-            micros(*rust),
-            micros(*own),
-            micros(*floor),
-            ratio(*subject, *rust),
-            ratio(*subject, *floor),
-            ratio(*rust, *floor),
-        );
-    }
-
-    println!("\nGrowth: microseconds at 1/16, 1/4 and all of the size, and how many times longer each is than the one before:\n");
-    for (label, sizes) in &results {
-        println!("{label}");
-        for (who, time) in [
-            (name, (|times| times.subject) as fn(&Times) -> Duration),
-            ("Rust", |times| times.rust),
-            ("Rust own", |times| times.own),
-            ("floor", |times| times.floor),
-        ] {
-            let [small, middle, whole] = [0, 1, 2].map(|i| time(&sizes[i].1));
-            println!(
-                "    {who:10} {:9.1} {:9.1} {:9.1}   x {:6.2}  x {:6.2}",
-                micros(small),
-                micros(middle),
-                micros(whole),
-                ratio(middle, small),
-                ratio(whole, middle)
-            );
-        }
-        println!("    sizes: {}; {}; {}", sizes[0].0, sizes[1].0, sizes[2].0);
-    }
-    ExitCode::SUCCESS
+    tables::print(SUBJECT.1, &results);
 }
 
 fn explain(runs: usize) {
     let name = SUBJECT.1;
     println!("On {}, both built for release.", processor().unwrap_or("an unknown processor".into()));
-    println!("{name} and Rust: the calls on lent memory; both test all {STATE_CELLS} cells of the state for soundness, and LOAD");
-    println!("clears all {WORK_CELLS} cells of work memory. Rust decodes the cells, works on hash maps and vectors, and encodes");
-    println!("them back. Rust own: the same linker on its own structures, with no lent memory, for information.");
-    println!("Floor: one pass over the same bytes and cells (LOAD: file and state read, work memory cleared; END: state read,");
-    println!("image written; MEMORY: state read).");
-    println!("Buffers: one state, one work memory and one output, lent to each in turn. Before each run the state is copied back,");
-    println!("which is not timed and leaves it in the cache; work memory is zero already. Up to {runs} runs of each, alternating.");
+    println!("- {name} and Rust: the calls on lent memory, each by the same rules. Both test all {STATE_CELLS} cells of the state for");
+    println!("  soundness, and at LOAD both clear all {WORK_CELLS} cells of work memory. Rust decodes the cells, works on hash maps and");
+    println!("  vectors of its own, and encodes them back.");
+    println!(
+        "- Rust own: the same linker on its own structures, with no lent memory and no test of it, for information."
+    );
+    println!("- floor: one pass over the same bytes and cells, with nothing done to them. LOAD: file and state read, work memory");
+    println!("  cleared; END: state read, image written; MEMORY: state read.");
+    println!("- Buffers: one state, one work memory and one output, lent to each in turn. Before each run the state is copied back,");
+    println!("  which is not timed and leaves it in the cache; work memory is zero, as the run before left it.");
+    println!("- Up to {runs} runs of each, alternating; medians.");
     #[cfg(feature = "library")]
-    println!("{name}: {}", compare::ffi::ARCHIVE);
+    println!("- {name}: {}", compare::ffi::ARCHIVE);
     #[cfg(not(feature = "library"))]
-    println!("{name}: the Rust linker once more, since the feature 'library' is off.");
+    println!("- {name}: the Rust linker once more, since the feature 'library' is off.");
 }
 
 fn measure(input: &Input, memory: &mut Memory, runs: usize) -> Times {
@@ -140,12 +147,14 @@ fn measure(input: &Input, memory: &mut Memory, runs: usize) -> Times {
     Times { subject, rust, own, floor, runs }
 }
 
-/// Both do the same work: they leave equal states and outputs. It also warms the memory up.
+/// Both do the same work: they leave equal states and outputs, and work memory zero. It also warms the memory up.
 fn check(input: &Input, memory: &mut Memory) {
     run_lent(&SUBJECT.0, input, memory);
     let (state, out) = (memory.state.clone(), memory.out.clone());
+    assert!(memory.work.iter().all(|&cell| cell == 0), "{} leaves work memory zero", SUBJECT.1);
     run_lent(&Lent, input, memory);
     assert!(state == memory.state && out == memory.out, "{} and Rust part on {}", SUBJECT.1, input.size);
+    assert!(memory.work.iter().all(|&cell| cell == 0), "Rust leaves work memory zero");
 }
 
 fn run_lent(calls: &dyn Calls, input: &Input, memory: &mut Memory) -> Duration {
@@ -198,12 +207,4 @@ fn processor() -> Option<String> {
 fn median(mut times: Vec<Duration>) -> Duration {
     times.sort_unstable();
     times[times.len() / 2]
-}
-
-fn micros(time: Duration) -> f64 {
-    time.as_secs_f64() * 1e6
-}
-
-fn ratio(time: Duration, other: Duration) -> f64 {
-    time.as_secs_f64() / other.as_secs_f64().max(1e-9)
 }

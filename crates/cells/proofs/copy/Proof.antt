@@ -15,7 +15,7 @@ abbrev μ-loop : tie.MeasureT-loop
 μ-loop source target₀ n i₀ target i = n - i
 
 loop-holds : tie.Need-loop-holds Inv-loop μ-loop
-loop-holds c = (refl, filled-start (c .args .source .now) (c .args .target .now) (sym (c .pre)))
+loop-holds c = (sym (c .pre), filled-start (c .args .source .now) (c .args .target .now) (sym (c .pre)))
 
 mul-target : tie.Need-mul-target Inv-loop μ-loop
 mul-target c = omega (arith, c .before .loop .inv .1 .size)

@@ -5,7 +5,7 @@ use mathlib.Core.Path.{_∙_, ap}
 use mathlib.Core.List.{_++_}
 use Rattle.rules.specs.Image.{two}
 use Rattle.image.specs.Output.{overlay}
-use Rattle.image.proofs.OutputLaws.{puts, puts-all, word-bytes}
+use Rattle.image.proofs.OutputLaws.{puts, puts-all}
 use Rattle.image.proofs.put_end.Statement.{statement}
 use Rattle.image.proofs.put_end.Tie as tie
 use Rattle.image.proofs.put_end.Reads as reads

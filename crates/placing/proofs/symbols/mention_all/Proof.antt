@@ -13,10 +13,10 @@ use Rattle.placing.proofs.symbols.mention_all.Statement.{statement}
 use Rattle.placing.proofs.symbols.mention_all.Tie as tie
 
 abbrev Inv-loop : tie.InvT-loop
-Inv-loop parts state₀ n at₀ count₀ i₀ state at count i = (i ≤ n) × (n ≡ length parts) × Good state × (length state ≡ length state₀) × Mentioning (externalsIn (partsFrom parts 0)) (decode state₀) count at (externalsIn (partsFrom parts i)) (decode state)
+Inv-loop parts state₀ guesses n at₀ count₀ i₀ state at count i = (i ≤ n) × (n ≡ length parts) × Good state × (length state ≡ length state₀) × Mentioning (externalsIn (partsFrom parts 0)) (decode state₀) count at (externalsIn (partsFrom parts i)) (decode state)
 
 abbrev μ-loop : tie.MeasureT-loop
-μ-loop parts state₀ n at₀ count₀ i₀ state at count i = n - i
+μ-loop parts state₀ guesses n at₀ count₀ i₀ state at count i = n - i
 
 loop-holds : tie.Need-loop-holds Inv-loop μ-loop
 loop-holds c = (omega arith, refl, c .before .before .pre .1, refl, record { long = refl; count = omega arith; places = refl; mentioned-is = refl })
@@ -41,6 +41,15 @@ shared-slice-read-name c = omega arith
 
 add-i : tie.Need-add-i Inv-loop μ-loop
 add-i c = omega arith
+
+mul-guess : tie.Need-mul-guess Inv-loop μ-loop
+mul-guess c = search needs
+
+array-read-guess : tie.Need-array-read-guess Inv-loop μ-loop
+array-read-guess c = search needs
+
+cast-guess : tie.Need-cast-guess Inv-loop μ-loop
+cast-guess c = search needs
 
 mention-at-requires : tie.Need-mention-at-requires Inv-loop μ-loop
 mention-at-requires c κs = c .before .before .before .before .before .loop .inv .2
@@ -95,6 +104,9 @@ mention-all-spec =
     mul-name
     shared-slice-read-name
     add-i
+    mul-guess
+    array-read-guess
+    cast-guess
     mention-at-requires
     same-length
     returns

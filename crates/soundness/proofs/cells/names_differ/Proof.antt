@@ -1,56 +1,45 @@
-use Rattle.soundness.specs.Checks.{differsAt, namesDiffer}
-use Rattle.state.specs.Layout.{range}
-use Rattle.rules.specs.Text.{all}
-use Rattle.state.proofs.BoolLaws.{refused, passed}
-use Rattle.state.proofs.ListLaws.{each-stop, each-on, each-end}
+use Prim.Native.Nat.{ℕ}
+use mathlib.Core.Path.{sym}
 use native.Mathlib.Omega.{arith}
-use mathlib.Core.Path.{_≡_, refl}
-use Prim.Native.Nat.{_-_}
+use lib.ListN.{replicate, length-replicate}
+use Rattle.state.proofs.BoolLaws.{refused, passed}
+use borrow.Author.Tests.{not-false}
+use Rattle.soundness.proofs.MetLaws.{Behind, behind-start, behind-has, behind-step, behind-end, fails-at}
 use Rattle.soundness.proofs.cells.names_differ.Statement.{statement}
 use Rattle.soundness.proofs.cells.names_differ.Tie as tie
+use Rattle.soundness.proofs.cells.names_differ.Reads as reads
+use Rattle.soundness.proofs.cells.names_differ.Lts as lts
+use Rattle.soundness.proofs.cells.stands_alone.Reads as stands-alone-reads
 
 abbrev Inv-loop : tie.InvT-loop
-Inv-loop state n i₀ i = all (differsAt state n) (range i n) ≡ namesDiffer state n
+Inv-loop state n met₀ i₀ met i = Behind state n i met
 
 abbrev μ-loop : tie.MeasureT-loop
-μ-loop state n i₀ i = n - i
+μ-loop state n met₀ i₀ met i = i
 
 loop-holds : tie.Need-loop-holds Inv-loop μ-loop
-unfolding namesDiffer
-loop-holds c = refl
+loop-holds c = behind-start (c .before .args .state .now) (c .before .args .n) (replicate {A = ℕ} 4096 0) (length-replicate {A = ℕ} 4096 0)
 
-add-unlike-from : tie.Need-add-unlike-from Inv-loop μ-loop
-add-unlike-from c = omega arith
+sub-i : tie.Need-sub-i Inv-loop μ-loop
+sub-i c = omega arith
 
-mul-unlike-from : tie.Need-mul-unlike-from Inv-loop μ-loop
-mul-unlike-from c = omega arith
+slice-aggregate-stands-alone : tie.Need-slice-aggregate-stands-alone Inv-loop μ-loop
+slice-aggregate-stands-alone c = sym (c .before .before .loop .inv .has .size)
 
-shared-slice-read-unlike-from : tie.Need-shared-slice-read-unlike-from Inv-loop μ-loop
-shared-slice-read-unlike-from c = omega arith
-
-add-unlike-from-2 : tie.Need-add-unlike-from-2 Inv-loop μ-loop
-add-unlike-from-2 c = omega arith
-
-unlike-from-requires : tie.Need-unlike-from-requires Inv-loop μ-loop
-unlike-from-requires c κs = omega arith
+stands-alone-requires : tie.Need-stands-alone-requires Inv-loop μ-loop
+stands-alone-requires c κs = (c .before .before .before .before .pre .0, ((omega (arith, c .before .before .loop .inv .within), c .before .before .before .before .pre .1), behind-has (c .before .before .before .before .args .state .now) (c .before .before .before .before .args .n) (c .before .before .loop .met) (c .before .before .loop .i) (c .before .before .loop .inv) (c .before .loop-test .taken)))
 
 returns : tie.Need-returns Inv-loop μ-loop
-unfolding namesDiffer
-returns c = each-stop (differsAt (c .before .before .before .before .before .before .args .state .now) _) _ _ _ (c .before .before .before .before .loop .inv) (omega arith) (refused _ _ (c .before .unlike-from .ensures) (c .if1 .taken))
-
-add-i : tie.Need-add-i Inv-loop μ-loop
-add-i c = omega arith
+returns c = fails-at (c .before .before .before .before .before .before .before .args .state .now) (c .before .before .before .before .before .before .before .args .n) _ (omega (arith, c .before .before .before .before .before .loop .inv .within)) (refused _ _ (c .before .before .stands-alone .ensures .is) (c .if1 .taken))
 
 loop-less : tie.Need-loop-less Inv-loop μ-loop
 loop-less c = omega arith
 
 loop-again : tie.Need-loop-again Inv-loop μ-loop
-unfolding namesDiffer
-loop-again c = each-on (differsAt (c .before .before .before .before .before .before .args .state .now) _) _ _ _ (c .before .before .before .before .loop .inv) (omega arith) (passed _ _ (c .before .unlike-from .ensures) (c .if1 .left))
+loop-again c = behind-step (c .before .before .before .before .before .before .before .args .state .now) (c .before .before .before .before .before .before .before .args .n) (c .before .before .before .before .before .loop .met) (c .before .before .before .before .before .loop .i) (c .before .before .before .before .before .loop .inv) (c .before .before .before .before .loop-test .taken) _ (c .before .before .stands-alone .result) (c .before .before .stands-alone .ensures) (not-false (c .before .before .stands-alone .result) (c .if1 .left))
 
 returns-2 : tie.Need-returns-2 Inv-loop μ-loop
-unfolding namesDiffer
-returns-2 c = each-end (differsAt (c .before .before .before .args .state .now) _) _ _ _ (c .before .loop .inv) (omega arith)
+returns-2 c = behind-end (c .before .before .before .args .state .now) (c .before .before .before .args .n) (c .before .loop .met) (c .before .loop .i) (c .before .loop .inv) (c .loop-test .left)
 
 pub names-differ-spec : {M : Type 1} → statement M
 names-differ-spec =
@@ -59,13 +48,10 @@ names-differ-spec =
     Inv-loop
     μ-loop
     loop-holds
-    add-unlike-from
-    mul-unlike-from
-    shared-slice-read-unlike-from
-    add-unlike-from-2
-    unlike-from-requires
+    sub-i
+    slice-aggregate-stands-alone
+    stands-alone-requires
     returns
-    add-i
     loop-less
     loop-again
     returns-2)

@@ -8,6 +8,9 @@ use mathlib.Core.Path.{_≡_, refl}
 use Prim.Native.Nat.{_-_}
 use Rattle.soundness.proofs.cells.words_sound.Statement.{statement}
 use Rattle.soundness.proofs.cells.words_sound.Tie as tie
+use Rattle.soundness.proofs.cells.words_sound.Reads as reads
+use Rattle.soundness.proofs.cells.words_sound.Lts as lts
+use Rattle.soundness.proofs.cells.word_sound.Reads as word-sound-reads
 
 abbrev Inv-loop : tie.InvT-loop
 Inv-loop state n a₀ a = all (wordSoundAt state n) (range a 4096) ≡ wordsSound state n
@@ -19,30 +22,12 @@ loop-holds : tie.Need-loop-holds Inv-loop μ-loop
 unfolding wordsSound
 loop-holds c = refl
 
-add-word-sound : tie.Need-add-word-sound Inv-loop μ-loop
-add-word-sound c = omega arith
-
-mul-word-sound : tie.Need-mul-word-sound Inv-loop μ-loop
-mul-word-sound c = omega arith
-
-shared-slice-read-word-sound : tie.Need-shared-slice-read-word-sound Inv-loop μ-loop
-shared-slice-read-word-sound c = omega arith
-
-add-word-sound-2 : tie.Need-add-word-sound-2 Inv-loop μ-loop
-add-word-sound-2 c = omega arith
-
-mul-word-sound-2 : tie.Need-mul-word-sound-2 Inv-loop μ-loop
-mul-word-sound-2 c = omega arith
-
-shared-slice-read-word-sound-2 : tie.Need-shared-slice-read-word-sound-2 Inv-loop μ-loop
-shared-slice-read-word-sound-2 c = omega arith
-
 word-sound-requires : tie.Need-word-sound-requires Inv-loop μ-loop
-word-sound-requires c κs = omega arith
+word-sound-requires c κs = (c .before .before .before .pre .0, (omega arith, omega arith))
 
 returns : tie.Need-returns Inv-loop μ-loop
 unfolding wordsSound
-returns c = each-stop _ _ _ _ (c .before .before .before .before .before .loop .inv) (omega arith) (refused _ _ (c .before .word-sound .ensures) (c .if1 .taken))
+returns c = each-stop (wordSoundAt (c .before .before .before .before .before .args .state .now) _) _ _ _ (c .before .before .before .loop .inv) (omega arith) (refused _ _ (c .before .word-sound .ensures) (c .if1 .taken))
 
 add-a : tie.Need-add-a Inv-loop μ-loop
 add-a c = omega arith
@@ -52,11 +37,11 @@ loop-less c = omega arith
 
 loop-again : tie.Need-loop-again Inv-loop μ-loop
 unfolding wordsSound
-loop-again c = each-on _ _ _ _ (c .before .before .before .before .before .loop .inv) (omega arith) (passed _ _ (c .before .word-sound .ensures) (c .if1 .left))
+loop-again c = each-on (wordSoundAt (c .before .before .before .before .before .args .state .now) _) _ _ _ (c .before .before .before .loop .inv) (omega arith) (passed _ _ (c .before .word-sound .ensures) (c .if1 .left))
 
 returns-2 : tie.Need-returns-2 Inv-loop μ-loop
 unfolding wordsSound
-returns-2 c = each-end _ _ _ _ (c .before .loop .inv) (omega arith)
+returns-2 c = each-end (wordSoundAt (c .before .before .before .args .state .now) _) _ _ _ (c .before .loop .inv) (omega arith)
 
 pub words-sound-spec : {M : Type 1} → statement M
 words-sound-spec =
@@ -65,12 +50,6 @@ words-sound-spec =
     Inv-loop
     μ-loop
     loop-holds
-    add-word-sound
-    mul-word-sound
-    shared-slice-read-word-sound
-    add-word-sound-2
-    mul-word-sound-2
-    shared-slice-read-word-sound-2
     word-sound-requires
     returns
     add-a

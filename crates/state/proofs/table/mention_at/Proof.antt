@@ -4,8 +4,8 @@ use Rattle.state.proofs.TableLaws.{mention-inside, mention-full, mentio
 use Rattle.state.proofs.table.mention_at.Statement.{statement}
 use Rattle.state.proofs.table.mention_at.Tie as tie
 
-find-requires : tie.Need-find-requires
-find-requires c κs = search needs
+find-by-requires : tie.Need-find-by-requires
+find-by-requires c κs = search needs
 
 slice-read-n : tie.Need-slice-read-n
 slice-read-n c = omega arith
@@ -14,13 +14,13 @@ same-length : tie.Need-same-length
 same-length c = omega arith
 
 returns : tie.Need-returns
-returns c = mention-inside (c .before .before .before .before .before .pre) (c .before .before .find .ensures) (c .if1 .taken)
+returns c = mention-inside (c .before .before .before .before .before .pre) (c .before .before .find-by .ensures) (c .if1 .taken)
 
 same-length-2 : tie.Need-same-length-2
 same-length-2 c = omega arith
 
 returns-2 : tie.Need-returns-2
-returns-2 c = mention-full (c .before .before .before .before .before .before .pre) (c .before .before .before .find .ensures) (c .before .if1 .left) (c .if2 .taken)
+returns-2 c = mention-full (c .before .before .before .before .before .before .pre) (c .before .before .before .find-by .ensures) (c .before .if1 .left) (c .if2 .taken)
 
 add-state : tie.Need-add-state
 add-state c = omega arith
@@ -41,13 +41,13 @@ same-length-3 : tie.Need-same-length-3
 same-length-3 c = search needs
 
 returns-3 : tie.Need-returns-3
-returns-3 c = mention-behind (c .before .before .before .before .before .before .pre) (c .before .before .before .find .ensures) (c .before .if1 .left) (c .if2 .left)
+returns-3 c = mention-behind (c .before .before .before .before .before .before .pre) (c .before .before .before .find-by .ensures) (c .before .if1 .left) (c .if2 .left)
 
 pub mention-at-spec : {M : Type 1} → statement M
 mention-at-spec =
     tie.close
     (tie.spec
-    find-requires
+    find-by-requires
     slice-read-n
     same-length
     returns

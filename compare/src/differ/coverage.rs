@@ -1,0 +1,182 @@
+//! What a run reached: how often each call gave each answer, and how many rounds the accepted loads had. Document 01 says
+//! which answers a call can give at all; a run that is meant to reach them all names those that it missed.
+
+use std::fmt;
+
+use super::case::{Call, Origin};
+
+/// A column of the table: a call, and for LOAD where its file comes from.
+#[derive(Clone, Copy, Debug, PartialEq, Eq)]
+pub enum Column {
+    Load(Origin),
+    Force,
+    Base,
+    Reset,
+    Memory,
+    Symbols,
+    Undefined,
+    End,
+}
+
+use Column::*;
+
+const ANSWERS: usize = 17;
+
+const COLUMNS: [(Column, &str); 11] = [
+    (Load(Origin::Given), "given"),
+    (Load(Origin::Whole), "whole"),
+    (Load(Origin::Damaged), "damaged"),
+    (Load(Origin::Odd), "odd"),
+    (Force, "FORCE"),
+    (Base, "BASE"),
+    (Reset, "RESET"),
+    (Memory, "MEMORY"),
+    (Symbols, "SYMBOLS"),
+    (Undefined, "UNDEF."),
+    (End, "END"),
+];
+
+impl Column {
+    /// `None` for what is no call.
+    pub fn of(call: &Call) -> Option<Column> {
+        Some(match call {
+            Call::Load { origin, .. } => Load(*origin),
+            Call::Force(_) => Force,
+            Call::Base(_) => Base,
+            Call::Reset => Reset,
+            Call::Memory => Memory,
+            Call::Symbols(_) => Symbols,
+            Call::Undefined(_) => Undefined,
+            Call::End(_) => End,
+            Call::Poke(_) => return None,
+        })
+    }
+
+    /// Whether document 01 has the answer for the call. A whole file has no malformed line and no misplaced block.
+    pub fn can_give(self, number: u64) -> bool {
+        match self {
+            Load(Origin::Whole) => matches!(number, 0..=5 | 8..=14),
+            Load(_) => number <= 14,
+            Force => matches!(number, 0..=4 | 14 | 15),
+            Base => matches!(number, 0..=4 | 12),
+            Reset => matches!(number, 0..=1),
+            Memory | Symbols | Undefined => matches!(number, 0..=2),
+            End => matches!(number, 0..=3 | 16),
+        }
+    }
+
+    /// Whether a run of random cases must have met the answer. What is no file at all is hardly ever read to its end.
+    fn must_give(self, number: u64) -> bool {
+        match self {
+            Load(Origin::Given) => false,
+            Load(Origin::Odd) => number <= 7,
+            _ => self.can_give(number),
+        }
+    }
+}
+
+/// Rounds of a load, as rows of the table: the first and last number of each.
+const ROUNDS: [(u64, u64); 9] = [(0, 0), (1, 1), (2, 2), (3, 3), (4, 4), (5, 8), (9, 16), (17, 64), (65, u64::MAX)];
+
+#[derive(Clone, Debug, Default)]
+pub struct Coverage {
+    pub calls: u64,
+    answers: [[u64; ANSWERS]; COLUMNS.len()],
+    /// Of accepted loads with no section, one, and several.
+    rounds: [[u64; 3]; ROUNDS.len()],
+    pub most_rounds: u64,
+    /// SYMBOLS and UNDEFINED past the end of their list.
+    past_end: [u64; 2],
+}
+
+impl Coverage {
+    pub fn note(&mut self, column: Column, number: u64) {
+        self.calls += 1;
+        if let (Some(at), true) = (COLUMNS.iter().position(|each| each.0 == column), number < ANSWERS as u64) {
+            self.answers[at][number as usize] += 1;
+        }
+    }
+
+    pub fn note_rounds(&mut self, rounds: u64, sections: usize) {
+        self.most_rounds = self.most_rounds.max(rounds);
+        if let Some(row) = ROUNDS.iter().position(|&(first, last)| (first..=last).contains(&rounds)) {
+            self.rounds[row][sections.min(2)] += 1;
+        }
+    }
+
+    pub fn note_past_end(&mut self, column: Column) {
+        self.past_end[usize::from(column == Undefined)] += 1;
+    }
+
+    /// How often a column had an answer.
+    pub fn count(&self, column: Column, number: usize) -> u64 {
+        COLUMNS.iter().position(|each| each.0 == column).map_or(0, |at| self.answers[at][number])
+    }
+
+    /// What a run of random cases should have met and did not.
+    pub fn missing(&self) -> Vec<String> {
+        let mut missing = Vec::new();
+        for (column, name) in COLUMNS {
+            for number in (0..ANSWERS as u64).filter(|&number| column.must_give(number)) {
+                if self.count(column, number as usize) == 0 {
+                    missing.push(format!("answer {number} of {name}"));
+                }
+            }
+        }
+        for (row, &(first, last)) in ROUNDS.iter().enumerate() {
+            let [none, one, several] = self.rounds[row];
+            if first == 0 && none == 0 {
+                missing.push("a LOAD without a section".into());
+            }
+            if first > 0 && one == 0 {
+                missing.push(format!("{} rounds of one section", shown(first, last)));
+            }
+            if first > 1 && several == 0 {
+                missing.push(format!("{} rounds of several sections", shown(first, last)));
+            }
+        }
+        for (count, name) in self.past_end.iter().zip(["SYMBOLS", "UNDEFINED"]) {
+            if *count == 0 {
+                missing.push(format!("{name} past its end"));
+            }
+        }
+        missing
+    }
+}
+
+fn shown(first: u64, last: u64) -> String {
+    match last {
+        u64::MAX => format!("{first} and more"),
+        _ if first == last => first.to_string(),
+        _ => format!("{first} to {last}"),
+    }
+}
+
+impl fmt::Display for Coverage {
+    /// The two tables. A `-` is an answer that document 01 does not have for the call.
+    fn fmt(&self, f: &mut fmt::Formatter<'_>) -> fmt::Result {
+        let shown_columns: Vec<usize> =
+            (0..COLUMNS.len()).filter(|&at| self.answers[at].iter().any(|&count| count > 0)).collect();
+        write!(f, "answer")?;
+        for &at in &shown_columns {
+            write!(f, " {:>8}", COLUMNS[at].1)?;
+        }
+        writeln!(f)?;
+        for number in 0..ANSWERS {
+            write!(f, "{number:6}")?;
+            for &at in &shown_columns {
+                match (COLUMNS[at].0.can_give(number as u64), self.answers[at][number]) {
+                    (false, 0) => write!(f, " {:>8}", "-")?,
+                    (_, count) => write!(f, " {count:8}")?,
+                }
+            }
+            writeln!(f)?;
+        }
+        writeln!(f, "rounds of accepted loads   without   with one   with several sections")?;
+        for (&(first, last), [none, one, several]) in ROUNDS.iter().zip(&self.rounds) {
+            writeln!(f, "{:>24}   {none:7}   {one:8}   {several:12}", shown(first, last))?;
+        }
+        let [symbols, undefined] = self.past_end;
+        write!(f, "past the end of the list: SYMBOLS {symbols}, UNDEFINED {undefined}")
+    }
+}

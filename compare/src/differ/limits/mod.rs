@@ -1,0 +1,74 @@
+//! Cases at each limit of document 01 and one past it. The answers stand beside them, taken from the paper and not from a
+//! linker.
+
+mod memory;
+mod paper;
+mod placing;
+mod reading;
+
+use super::case::{Call, Case, Step};
+use crate::memory::fresh;
+
+/// Every case.
+pub fn all() -> Vec<Case> {
+    [paper::all(), reading::all(), placing::all(), memory::all()].concat()
+}
+
+/// A module around some blocks.
+fn module(title: &str, blocks: &str) -> String {
+    format!("3 ***TITLE\n{title}\n{blocks}1 ***END\n{title}\n")
+}
+
+fn section(modules: &str) -> String {
+    format!("6 ***LSB\n{modules}7 ***LEB\n")
+}
+
+fn code(offset: usize, words: usize) -> String {
+    format!("0 {words:o} {offset:o} ***CODE\n{}", "1 2 3 4\n".repeat(words))
+}
+
+/// `count` names from number `first` on.
+fn names(first: usize, count: usize) -> Vec<String> {
+    (first..first + count).map(|i| format!("N{i}")).collect()
+}
+
+fn entries(names: &[String]) -> String {
+    let records: String = names.iter().map(|name| format!("{name} 0 0\n")).collect();
+    format!("4 {:o} ***ENTRY\n{records}", names.len())
+}
+
+fn externals(names: &[String]) -> String {
+    let records: String = names.iter().map(|name| format!("{name}\n")).collect();
+    format!("5 {:o} ***EXT\n{records}", names.len())
+}
+
+fn load(file: impl Into<Vec<u8>>, number: u64, line: u64) -> Step {
+    call(Call::load(file), number, line)
+}
+
+/// An accepted load with so many rounds.
+fn searched(file: impl Into<Vec<u8>>, rounds: u64) -> Step {
+    Step { rounds: Some(rounds), ..load(file, 0, 0) }
+}
+
+fn call(call: Call, number: u64, line: u64) -> Step {
+    Step { expected: Some((number, line)), ..Step::from(call) }
+}
+
+fn force(name: &str, number: u64) -> Step {
+    call(Call::Force(name.as_bytes().to_vec()), number, 0)
+}
+
+fn base(address: u64, number: u64) -> Step {
+    call(Call::Base(address), number, 0)
+}
+
+/// A case from the fresh state.
+fn case(label: impl AsRef<str>, steps: impl Into<Vec<Step>>) -> Case {
+    Case { label: format!("limit: {}", label.as_ref()), state: fresh(), steps: steps.into() }
+}
+
+/// A load that is answered 0, or refused at a line.
+fn load_or_refused(file: String, number: u64, line: u64) -> Step {
+    load(file, number, if number == 0 { 0 } else { line })
+}

@@ -1,0 +1,62 @@
+#!/usr/bin/env bash
+# Profiles the rows of the benchmark by callgrind: the instructions of one call of the verified library, by function, and those of
+# the Rust linker. Numbers and not times, so that a busy machine does not matter.
+#
+#   scripts/profile.sh            the rows and their numbers
+#   scripts/profile.sh ROW ...    these rows
+#
+# As built, nearly everything is inlined into the eight calls. So the LLVM module that `rt staticlib` hands to clang is compiled once
+# more, at the same -O3, with the functions of KEPT left out of line; that is about a tenth more instructions. The kit's clang is
+# watched for the module through a folder of links to the kit. memset and memcpy count an instruction a byte (`rep stosb`).
+set -eu
+cd "$(dirname "$0")/.."
+KEPT='cells::(clear|copy)|soundness::memory::refusal|soundness::cells::(names_differ|symbols_sound|words_sound|zero_between)
+|reading::read_file|reading::fill::add_part|text::lines::next_line|record::(line_answer|fields_say|test_bytes)|record::fitting::fit
+|record::fields::read_field|record::shapes::read_as|record::records::(code|entry)_line|record::headers::header_line|steps::lines::step_of
+|walking::walk|repeats::(repeats|entered_in)|library::rounds::\w+|library::modules::wants|state::table::find|placing::place
+|placing::symbols::(enter|mention_all)|placing::words::(lay|link)|parts::tests::\w+|image::(image_length|write_words|write_image)
+|loading::(walk_file|load_file)'
+
+kit=$(dirname "$(dirname "$(rt doc)")")
+machine=$(uname -m)
+out=$PWD/target/profile
+bench() { (cd compare && LNK100_LIB="$1" CARGO_TARGET_DIR="$out/cargo-$2" cargo build --offline --quiet --release --features library --bin bench); }
+
+mkdir -p "$out/lib"
+rt staticlib linker > "$out/log" 2>&1 || { cat "$out/log"; exit 1; }
+bench "$PWD/target/staticlib" built
+built=$out/cargo-built/release/bench
+if [ $# -eq 0 ]; then exec "$built" --rows; fi
+
+# the kit once more, with a clang that keeps its input
+rm -rf "$out/kit"
+mkdir -p "$out/kit/on/$machine/toolchain/bin"
+for each in "$kit"/*; do [ "${each##*/}" = on ] || ln -s "$each" "$out/kit/"; done
+for each in "$kit/on/$machine"/*; do [ "${each##*/}" = toolchain ] || ln -s "$each" "$out/kit/on/$machine/"; done
+tools=$kit/on/$machine/toolchain
+ln -s "$tools/lib" "$out/kit/on/$machine/toolchain/lib"
+for each in ld.lld llvm-ar; do ln -s "$tools/bin/$each" "$out/kit/on/$machine/toolchain/bin/"; done
+printf '#!/bin/sh\ncp module.bc "%s/module.bc"\nprintf "%%s\\n" "$*" > "%s/words"\nexec "%s/bin/clang" "$@"\n' "$out" "$out" "$tools" \
+    > "$out/kit/on/$machine/toolchain/bin/clang"
+chmod +x "$out/kit/on/$machine/toolchain/bin/clang"
+RATTLE_HOME=$out/kit rt staticlib linker > "$out/log" 2>&1 || { cat "$out/log"; exit 1; }
+
+"$tools/bin/clang" --target=x86_64-unknown-linux-gnu -x ir "$out/module.bc" -S -emit-llvm -O0 -Xclang -disable-llvm-passes -o "$out/module.ll"
+kept=$(printf %s "$KEPT" | tr -d '\n')
+sed -E "/^define .*@\"($kept)\"\(/s/ #0 / noinline #0 /" "$out/module.ll" > "$out/apart.ll"
+"$tools/bin/clang" --target=x86_64-unknown-linux-gnu -march=x86-64 -O3 -fPIC -ffunction-sections -c -x ir "$out/apart.ll" -o "$out/apart.o"
+rm -f "$out/lib/liblinker.a"
+ar rcs "$out/lib/liblinker.a" "$out/apart.o"
+bench "$out/lib" apart
+apart=$out/cargo-apart/release/bench
+
+counted() { valgrind --tool=callgrind --callgrind-out-file=/dev/null "$built" --play "$@" 2>&1 | sed -n 's/.*Collected : //p'; }
+for row in "$@"; do
+    "$built" --rows | sed -n "$((row + 1))p"
+    for who in verified rust; do
+        echo "    $who, as built: $(($(counted "$row" $who 2) - $(counted "$row" $who 1))) instructions, the copy of the state before the call among them"
+    done
+    valgrind --tool=callgrind --callgrind-out-file="$out/row" --toggle-collect=lnk100_load --toggle-collect=lnk100_end \
+        --toggle-collect=lnk100_memory "$apart" --play "$row" verified > "$out/log" 2>&1
+    callgrind_annotate --threshold=99 "$out/row" 2> /dev/null | grep -E '^ *[0-9,]+ \(' | sed -E 's/ \[.*//; s/\?\?\?://; s,[^ ]*/,,; s/^/    /'
+done
