@@ -5,12 +5,43 @@
  * Loads the files in the order given, prints the table of symbols and writes the image. */
 #include "lnk100.h"
 #include <stdio.h>
-#include <string.h>
 
 static uint64_t state[LNK100_STATE_CELLS];
 static uint64_t work[LNK100_WORK_CELLS];
-static uint8_t file[LNK100_FILE_BYTES + 1];
+static uint8_t file[LNK100_FILE_BYTES + 1]; /* one byte more, so that a file that is too long is refused and not cut */
 static uint8_t image[LNK100_IMAGE_BYTES];
+
+static int refused(const char *what, uint64_t number, uint64_t line)
+{
+    printf("%s: refused by %d at line %d\n", what, (int)number, (int)line);
+    return 0;
+}
+
+/* The file's length, or -1 where it cannot be read. */
+static long read_file(const char *path)
+{
+    FILE *f = fopen(path, "rb");
+    if (!f)
+        return -1;
+    size_t n = fread(file, 1, sizeof file, f);
+    int failed = ferror(f);
+    fclose(f);
+    return failed ? -1 : (long)n;
+}
+
+static int load(const char *path)
+{
+    long n = read_file(path);
+    if (n < 0) {
+        printf("%s: cannot be read\n", path);
+        return 0;
+    }
+    lnk100_load_answer a = lnk100_load(state, LNK100_STATE_CELLS, work, LNK100_WORK_CELLS, file, (size_t)n);
+    if (a.number)
+        return refused(path, a.number, a.line);
+    printf("%s: loaded, %d rounds\n", path, (int)a.rounds);
+    return 1;
+}
 
 /* A packed name, padded to six characters. */
 static void print_name(uint64_t name)
@@ -21,21 +52,32 @@ static void print_name(uint64_t name)
     }
 }
 
-static int load(const char *path)
+static void print_symbols(void)
 {
-    FILE *f = fopen(path, "rb");
-    if (!f) {
-        printf("%s: cannot be opened\n", path);
+    for (uint64_t i = 0;; i++) {
+        lnk100_symbol_answer s = lnk100_symbols(state, LNK100_STATE_CELLS, i);
+        if (s.number || s.none)
+            return;
+        print_name(s.name);
+        printf(" %06o%s\n", (unsigned)s.value, s.defined ? "" : " U");
+    }
+}
+
+static int write_image(const char *path)
+{
+    lnk100_end_answer e = lnk100_end(state, LNK100_STATE_CELLS, image, sizeof image);
+    if (e.number)
+        return refused("END", e.number, e.line);
+    FILE *f = fopen(path, "wb");
+    int written = f && fwrite(image, 1, e.length, f) == e.length;
+    if (f && fclose(f))
+        written = 0;
+    if (!written) {
+        printf("%s: cannot be written\n", path);
         return 0;
     }
-    size_t n = fread(file, 1, sizeof file, f);
-    fclose(f);
-    lnk100_load_answer a = lnk100_load(state, LNK100_STATE_CELLS, work, LNK100_WORK_CELLS, file, n);
-    if (a.number)
-        printf("%s: refused by %d at line %d\n", path, (int)a.number, (int)a.line);
-    else
-        printf("%s: loaded, %d rounds\n", path, (int)a.rounds);
-    return a.number == 0;
+    printf("%s: %d bytes\n", path, (int)e.length);
+    return 1;
 }
 
 int main(int argc, char **argv)
@@ -48,23 +90,6 @@ int main(int argc, char **argv)
     for (int i = 2; i < argc; i++)
         if (!load(argv[i]))
             return 1;
-    for (uint64_t i = 0;; i++) {
-        lnk100_symbol_answer s = lnk100_symbols(state, LNK100_STATE_CELLS, i);
-        if (s.none)
-            break;
-        print_name(s.name);
-        printf(" %06o%s\n", (unsigned)s.value, s.defined ? "" : " U");
-    }
-    lnk100_end_answer e = lnk100_end(state, LNK100_STATE_CELLS, image, sizeof image);
-    if (e.number) {
-        printf("END refused by %d\n", (int)e.number);
-        return 1;
-    }
-    FILE *out = fopen(argv[1], "wb");
-    if (!out || fwrite(image, 1, e.length, out) != e.length || fclose(out)) {
-        printf("%s: cannot be written\n", argv[1]);
-        return 1;
-    }
-    printf("%s: %d bytes\n", argv[1], (int)e.length);
-    return 0;
+    print_symbols();
+    return !write_image(argv[1]);
 }

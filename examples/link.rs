@@ -12,28 +12,38 @@ fn stop(what: &str, r: Refused) -> ! {
     exit(1)
 }
 
-fn main() {
-    let words: Vec<String> = env::args().skip(1).collect();
-    let [image, files @ ..] = words.as_slice() else {
-        println!("usage: link IMAGE FILE ..");
-        exit(2)
+fn load(linker: &mut Linker, path: &str) {
+    let Ok(bytes) = fs::read(path) else {
+        println!("{path}: cannot be read");
+        exit(1)
     };
-    let mut linker = Linker::new();
-    for path in files {
-        let Ok(bytes) = fs::read(path) else {
-            println!("{path}: cannot be opened");
-            exit(1)
-        };
-        match linker.load(&bytes) {
-            Ok(rounds) => println!("{path}: loaded, {rounds} rounds"),
-            Err(r) => stop(path, r),
-        }
+    match linker.load(&bytes) {
+        Ok(rounds) => println!("{path}: loaded, {rounds} rounds"),
+        Err(r) => stop(path, r),
     }
+}
+
+fn print_symbols(linker: &Linker) -> Result<(), Refused> {
     let mut index = 0;
-    while let Ok(Some(s)) = linker.symbol(index) {
+    while let Some(s) = linker.symbol(index)? {
         println!("{:6} {:06o}{}", s.name, s.value, if s.defined { "" } else { " U" });
         index += 1;
     }
+    Ok(())
+}
+
+fn main() {
+    let words: Vec<String> = env::args().skip(1).collect();
+    if words.len() < 2 {
+        println!("usage: link IMAGE FILE ..");
+        exit(2)
+    }
+    let image = &words[0];
+    let mut linker = Linker::new();
+    for path in &words[1..] {
+        load(&mut linker, path);
+    }
+    print_symbols(&linker).unwrap_or_else(|r| stop("SYMBOLS", r));
     let bytes = linker.end().unwrap_or_else(|r| stop("END", r));
     if fs::write(image, &bytes).is_err() {
         println!("{image}: cannot be written");

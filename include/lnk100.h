@@ -1,13 +1,24 @@
-/* lnk100.h: the linker's calls, for C and C++.
+/* lnk100.h: the proved linker's calls, for C and C++. docs/MANUAL.md has the files, the answers and the image.
  *
- * Memory is the caller's. State memory holds one link; make it with lnk100_reset. Work memory is lent to a load and holds nothing
- * between calls. Any content of either is allowed: a call answers 1 or 2 for what it cannot use, and never reads or writes outside
- * what it is lent. All lengths count elements.
+ *     rt staticlib linker                                            proves and writes the library, for x86-64 Linux
+ *     cc -Iinclude examples/link.c target/staticlib/liblinker.a      a whole program over it
  *
- * An answer's `number` is 0 (DONE) or the refusal's, and `line` is the file's line for the refusals 6 to 14 of a load, else 0. In a
- * refused answer every other field is 0. Each call's answer, and every lent cell and byte afterwards, is what the call's definition
- * in crates/rules/specs/Calls.antt gives: that is proved of the functions that these declarations name. Nothing checks the
- * declarations themselves against the Rattle source, crates/linker/src/lib.rt. */
+ * A link is: lnk100_reset, lnk100_load for each file in order, lnk100_end.
+ *
+ * Memory is the caller's; the library has no heap and keeps nothing between calls. State memory holds one link from lnk100_reset on;
+ * work memory is needed during a load alone. Every length counts elements: cells of state and work memory, bytes of the rest.
+ *   - Any content is allowed: state memory that holds no sound state is told as 2 and not used, and nothing outside what is lent is
+ *     read or written. A copy of state memory is the same link, so it may be saved and taken back.
+ *   - The memories lent to one call must not overlap, and nobody may write them while it runs. A pointer may be null where its length
+ *     is 0. Calls on different memory may run at the same time.
+ *   - lnk100_load takes some 400 KB of stack (401,127 bytes were measured), the other calls less than 1 KB.
+ *
+ * Answers. `number` is 0 (LNK100_DONE) or tells why the call was refused. In a refused answer every field but `number` and `line` is 0:
+ * test `number` first. `line` is the file's line, from 1, where lnk100_load is refused by 6 to 14, and else 0.
+ *
+ * Each call's answer, and every lent cell and byte afterwards, is what the call's definition in crates/rules/specs/Calls.antt gives:
+ * that is proved of the functions that these declarations name. Nothing checks the declarations themselves against the Rattle
+ * source, crates/linker/src/lib.rt. */
 #ifndef LNK100_H
 #define LNK100_H
 
@@ -18,29 +29,30 @@
 extern "C" {
 #endif
 
-#define LNK100_STATE_CELLS 8708   /* length of state memory */
-#define LNK100_WORK_CELLS 65536  /* length of work memory */
-#define LNK100_FILE_BYTES 65536   /* the longest file */
-#define LNK100_IMAGE_BYTES 45061  /* the longest image: 4,096 words */
+#define LNK100_STATE_CELLS 8708  /* the length of state memory, in uint64_t */
+#define LNK100_WORK_CELLS 65536  /* the length of work memory, in uint64_t */
+#define LNK100_FILE_BYTES 65536  /* the longest file that a load takes */
+#define LNK100_IMAGE_BYTES 45061 /* the longest image: 11 bytes for each of 4,096 words, and 5 */
+#define LNK100_NO_ADDRESS 65535  /* in `high` and `highest`: there is none */
 
 enum {
     LNK100_DONE = 0,
     LNK100_BUFFER = 1,     /* state or work memory hasn't its fixed length */
-    LNK100_DAMAGED = 2,    /* the state isn't sound */
-    LNK100_RESET = 3,      /* broken: an earlier load was refused for its file */
-    LNK100_FROZEN = 4,     /* an END was done */
-    LNK100_TOO_LONG = 5,   /* file over 65,536 bytes */
-    LNK100_LINE = 6,       /* a line of the file is malformed */
+    LNK100_DAMAGED = 2,    /* state memory holds no sound state; lnk100_reset makes one */
+    LNK100_RESET = 3,      /* broken: an earlier load was refused for its file; only lnk100_reset goes on */
+    LNK100_FROZEN = 4,     /* lnk100_end was done; only lnk100_reset goes on */
+    LNK100_TOO_LONG = 5,   /* the file has over 65,536 bytes */
+    LNK100_LINE = 6,       /* a line's length, bytes, field count, number, name, marker, code or type */
     LNK100_PLACE = 7,      /* a block stands where it may not, END's title differs, or the file ends inside something */
-    LNK100_LIST = 8,       /* a 65th entry or external, a 257th module of a section */
-    LNK100_ROOM = 9,       /* base plus length over 4,096 */
+    LNK100_LIST = 8,       /* a module's 65th entry or external, a library's 257th module */
+    LNK100_ROOM = 9,       /* a module reaches past address 4,095 */
     LNK100_OVERLAP = 10,   /* a word would be placed twice */
-    LNK100_ARG = 11,       /* external number 0 or beyond the module's externals */
-    LNK100_RANGE = 12,     /* relocated entry over 65,535; BASE over 4,095 */
+    LNK100_ARG = 11,       /* a code word names external 0, or one beyond the module's externals */
+    LNK100_RANGE = 12,     /* a relocated entry over 65,535; lnk100_base over 4,095 */
     LNK100_DUPLICATE = 13, /* a second entry of one name */
     LNK100_TABLE = 14,     /* over 256 symbols */
-    LNK100_NAME = 15,      /* FORCE of an illegal name */
-    LNK100_OUT = 16        /* output shorter than the image */
+    LNK100_NAME = 15,      /* lnk100_force of what is no name */
+    LNK100_OUT = 16        /* the output is shorter than the image */
 };
 
 typedef struct { uint64_t number, line, rounds; } lnk100_load_answer;
@@ -50,32 +62,40 @@ typedef struct { uint64_t number, line, none, name, value, defined; } lnk100_sym
 typedef struct { uint64_t number, line, none, name, value, defined, highest; } lnk100_undefined_answer;
 typedef struct { uint64_t number, line, length; } lnk100_end_answer;
 
-/* Reads the file and places its free modules and the wanted modules of its libraries. Refusals 1 to 14. One by 6 to 14 sets the
- * broken mark, and the state is otherwise as it was; any other changes nothing. Work memory of its fixed length is zero afterwards,
- * refused or not; of another length it is untouched. `rounds` counts the library searches' rounds. */
-lnk100_load_answer lnk100_load(uint64_t *state, size_t state_len, uint64_t *work, size_t work_len, const uint8_t *file, size_t file_len);
-
-/* Puts a name into the table as an undefined symbol; DONE without change where it is there. Refusals 1 to 4, 15, 14. */
-lnk100_call_answer lnk100_force(uint64_t *state, size_t state_len, const uint8_t *name, size_t name_len);
-
-/* Sets the next address. Refusals 1 to 4, 12. */
-lnk100_call_answer lnk100_base(uint64_t *state, size_t state_len, uint64_t address);
-
-/* Makes the fresh state, whatever the memory held. Refusal 1. */
+/* Makes the fresh state, whatever state memory held: no symbols, no words, next address 0, neither broken nor frozen.
+ * Refused by 1; then the memory is as it was. */
 lnk100_call_answer lnk100_reset(uint64_t *state, size_t state_len);
 
-/* Gives HIGH, the next address less one, 65,535 when that address is 0. Refusals 1, 2. */
+/* Reads the whole file, then places its free modules and, of its libraries, the modules that define what is undefined, in file order
+ * from the next address on. `rounds` is how many times libraries were gone through, the last time of each in vain.
+ * Refused by 1 to 14. A load refused by 6 to 14 leaves the state as it was but for the broken mark; by 1 to 5, wholly as it was.
+ * Work memory of its fixed length is zero afterwards, refused or not; of another length it is untouched. The file is not kept. */
+lnk100_load_answer lnk100_load(uint64_t *state, size_t state_len, uint64_t *work, size_t work_len, const uint8_t *file, size_t file_len);
+
+/* Puts a name, 1 to 6 of A to Z and 0 to 9 and the first a letter, into the table as an undefined symbol, so that a library's module
+ * is taken for it. DONE without change where the table has the name, defined or not.
+ * Refused by 1 to 4, then 15, then 14; then the state is as it was. */
+lnk100_call_answer lnk100_force(uint64_t *state, size_t state_len, const uint8_t *name, size_t name_len);
+
+/* Sets the next address, 0 to 4,095, and changes nothing else. Refused by 1 to 4, then 12; then the state is as it was. */
+lnk100_call_answer lnk100_base(uint64_t *state, size_t state_len, uint64_t address);
+
+/* `high` is HIGH, the next address less one, and 65,535 when that address is 0. Refused by 1 and 2. Changes nothing. */
 lnk100_memory_answer lnk100_memory(const uint64_t *state, size_t state_len);
 
-/* Gives the symbol at an index in table order; past the end `none` is 1 and the rest 0. `name` is the name's six bytes in base 256,
- * the first highest, 0 where it is shorter. Refusals 1, 2. */
+/* The symbol at an index from 0, in the order in which names were first met: `value` is 0 to 65,535, `defined` 1, or both are 0. Past
+ * the last symbol, at any index, `none` is 1 and the rest 0. `name` is the six bytes of the name in base 256, the first byte highest,
+ * 0 for each that the name lacks: byte i is name >> (40 - 8 * i) & 255.
+ * Refused by 1 and 2 (`none` is 0 then too). Changes nothing, and works on broken and frozen states. */
 lnk100_symbol_answer lnk100_symbols(const uint64_t *state, size_t state_len, uint64_t index);
 
-/* The same over the undefined symbols, with the highest address that refers to the symbol, 65,535 if none. Refusals 1, 2. */
+/* The same over the undefined symbols alone, whose `value` and `defined` are 0. `highest` is the highest address whose word refers to
+ * the symbol, 65,535 where none does. */
 lnk100_undefined_answer lnk100_undefined(const uint64_t *state, size_t state_len, uint64_t index);
 
-/* Writes the image to the front of the output, keeps every byte past it, and freezes the state; may be repeated. `length` is the
- * image's. Refusals 1, 2, 3, 16: then neither output nor state changes. */
+/* Writes the image to the front of the output, keeps every byte past it, and freezes the state. `length` is the image's, in bytes. May
+ * be repeated, and gives the same image. Undefined symbols refuse nothing: each counts as 0 in the words that refer to it, and the
+ * image's last two bytes count them. Refused by 1, 2, 3 and 16; then neither output nor state changes. */
 lnk100_end_answer lnk100_end(uint64_t *state, size_t state_len, uint8_t *out, size_t out_len);
 
 #ifdef __cplusplus

@@ -1,19 +1,31 @@
-//! A safe wrapper of the proved linker's calls. It owns the memory that the calls are lent and holds no linking logic.
+//! A safe wrapper of the proved linker's calls, over `target/staticlib/liblinker.a` (`rt staticlib linker`). It owns the memory that
+//! the calls are lent and holds no linking logic. `examples/link.rs` is a whole program.
 //!
-//! The declarations repeat include/lnk100.h; nothing checks them against the Rattle source.
+//! What each call promises stands in include/lnk100.h. The declarations here repeat that file; nothing checks them against the Rattle
+//! source. `Linker::load` takes some 400 KB of stack.
 #![allow(dead_code)]
 
 pub const STATE_CELLS: usize = 8708;
 pub const WORK_CELLS: usize = 65_536;
 pub const IMAGE_BYTES: usize = 45_061;
 
-/// A refusal: document 01's number, and the line of the file where one is named.
+/// What `high` and the reference of `undefined` are where there is no address.
+pub const NO_ADDRESS: u64 = 65_535;
+
+/// Document 01's names of the answers, by number.
+pub const ANSWERS: [&str; 17] = [
+    "DONE", "BUFFER", "DAMAGED", "RESET", "FROZEN", "TOO LONG", "LINE", "PLACE", "LIST", "ROOM", "OVERLAP", "ARG", "RANGE",
+    "DUPLICATE", "TABLE", "NAME", "OUT",
+];
+
+/// A refused call: document 01's number, 1 to 16, and the line of the file where one is named, else 0.
 #[derive(Debug, Clone, Copy, PartialEq, Eq)]
 pub struct Refused {
     pub number: u64,
     pub line: u64,
 }
 
+/// `value` is 0 where the symbol is not defined.
 #[derive(Debug, Clone, PartialEq, Eq)]
 pub struct Symbol {
     pub name: String,
@@ -63,6 +75,12 @@ fn unpacked(name: u64) -> String {
     (0..6).rev().map(|k| (name >> (8 * k) & 255) as u8).filter(|&b| b != 0).map(char::from).collect()
 }
 
+impl Default for Linker {
+    fn default() -> Self {
+        Self::new()
+    }
+}
+
 impl Linker {
     /// A fresh link.
     pub fn new() -> Self {
@@ -71,12 +89,13 @@ impl Linker {
         linker
     }
 
+    /// Makes the link fresh: the only way on from a broken or a frozen one.
     pub fn reset(&mut self) {
         // The length is right, and RESET tests nothing else.
         unsafe { calls::lnk100_reset(self.state.as_mut_ptr(), self.state.len()) };
     }
 
-    /// The rounds of the library searches.
+    /// Loads a file, and gives the rounds of its library searches. Where the file is refused (6 to 14) the link is broken.
     pub fn load(&mut self, file: &[u8]) -> Result<u64, Refused> {
         let a = unsafe {
             calls::lnk100_load(
@@ -86,17 +105,19 @@ impl Linker {
         done(a.number, a.line, a.rounds)
     }
 
+    /// Names an undefined symbol, so that a library's module is taken for it.
     pub fn force(&mut self, name: &str) -> Result<(), Refused> {
         let a = unsafe { calls::lnk100_force(self.state.as_mut_ptr(), self.state.len(), name.as_ptr(), name.len()) };
         done(a.number, a.line, ())
     }
 
+    /// Sets the next address, 0 to 4,095.
     pub fn base(&mut self, address: u64) -> Result<(), Refused> {
         let a = unsafe { calls::lnk100_base(self.state.as_mut_ptr(), self.state.len(), address) };
         done(a.number, a.line, ())
     }
 
-    /// HIGH, 65,535 while the next address is 0.
+    /// HIGH, `NO_ADDRESS` while the next address is 0.
     pub fn high(&self) -> Result<u64, Refused> {
         let a = unsafe { calls::lnk100_memory(self.state.as_ptr(), self.state.len()) };
         done(a.number, a.line, a.high)
@@ -109,13 +130,13 @@ impl Linker {
         done(a.number, a.line, if a.none == 1 { None } else { Some(found) })
     }
 
-    /// The undefined symbol at an index, with the highest address that refers to it, 65,535 if none.
+    /// The undefined symbol at an index, with the highest address that refers to it, `NO_ADDRESS` if none does.
     pub fn undefined(&self, index: u64) -> Result<Option<(String, u64)>, Refused> {
         let a = unsafe { calls::lnk100_undefined(self.state.as_ptr(), self.state.len(), index) };
         done(a.number, a.line, if a.none == 1 { None } else { Some((unpacked(a.name), a.highest)) })
     }
 
-    /// The image.
+    /// The image. It freezes the link, and may be asked again.
     pub fn end(&mut self) -> Result<Vec<u8>, Refused> {
         let mut out = vec![0; IMAGE_BYTES];
         let a = unsafe { calls::lnk100_end(self.state.as_mut_ptr(), self.state.len(), out.as_mut_ptr(), out.len()) };

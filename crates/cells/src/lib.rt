@@ -8,9 +8,9 @@ pub fn copy(source: &[u64], target: &mut [u64])
     requires { ⌜ length (now source) ≡ length (now target) ⌝ }
     ensures { λ r. ⌜ now (target .exit) ≡ now (source .entry) ⌝ }
 {
-    let n = target.len();
+    let count = target.len();
     let mut i = 0;
-    while i < n {
+    while i < count {
         target[i] = source[i];
         i += 1;
     }

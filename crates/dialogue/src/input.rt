@@ -28,9 +28,17 @@ pub fn new_reader() -> Reader {
     }
 }
 
+// A failed read ends the input as its end does, so standard error is told.
+fn tell_failed(got: isize) {
+    if got < 0 {
+        os::fail(b"standard input");
+    }
+}
+
 // Reads the next piece.
 fn refilled(keys: &mut [u8], mut r: Reader) -> Reader {
     let got = libc::read(libc::STDIN_FILENO, keys);
+    tell_failed(got);
     let n = io::count(got, keys);
     r.at = 0;
     r.end = n;

@@ -1,4 +1,4 @@
--- One module of the tables: its cells, and whether it is wanted.
+-- Whether one module of the tables is wanted.
 use Prim.Native.Nat.{ℕ, _+_, _-_, _*_, _/_, _%_, _<_, _≤_, min, max}
 use native.Mathlib.Omega.{arith}
 use mathlib.Core.Bool.{Bool, true, false, cond, _&&_, _||_}
@@ -19,39 +19,6 @@ use Rattle.parts.specs.Cells.{partsFrom, isEntry}
 use Rattle.parts.specs.Passes.{namesIn}
 use Rattle.parts.proofs.CellLaws.{parts-done}
 use Rattle.parts.proofs.PassLaws.{names-next, turned}
-
--- a part of a list from a to e, as far as the list goes
-pub clamped : {A : Type 0} (l : List A) (a e : ℕ) {n s t : ℕ} → n ≡ length l → s ≡ min a n → t ≡ min (max e s) n →
-    take (t - s) (drop s l) ≡ take (e - a) (drop a l)
-clamped l a e {n} {s} {t} p q r = go (ltb n a) refl
-  where
-    go : (b : Bool) → ltb n a ≡ b → take (t - s) (drop s l) ≡ take (e - a) (drop a l)
-    go true h =
-        let past : n < a = ltb-true n a h in
-        let s-past : length l ≤ s = omega arith in
-        let a-past : length l ≤ a = omega arith in
-        ap (take (t - s)) (drop-of-length-le l s-past)
-        ∙ take-nil (t - s)
-        ∙ sym (ap (take (e - a)) (drop-of-length-le l a-past) ∙ take-nil (e - a))
-    go false h =
-        let inside : a ≤ n = ltb-false n a h in
-        let same : s ≡ a = omega arith in
-        ap₂ (λ k i. take (k - i) (drop i l)) r same ∙ whole (ltb n e) refl
-      where
-        whole : (b : Bool) → ltb n e ≡ b → take (min (max e s) n - a) (drop a l) ≡ take (e - a) (drop a l)
-        whole true h =
-            take-all (min (max e s) n - a) (drop a l) (omega (arith, length-drop a l, ltb-true n e h))
-            ∙ sym (take-all (e - a) (drop a l) (omega (arith, length-drop a l, ltb-true n e h)))
-        whole false h =
-            let same-count : min (max e s) n - a ≡ e - a = omega (arith, ltb-false n e h) in
-            ap (λ k. take k (drop a l)) same-count
-
-pub cells-lent : (parts rows : List ℕ) (row : ℕ) {body n s u t : ℕ} → body ≡ bodyIn rows row → n ≡ length parts →
-    s ≡ min (2 * (body % 65536)) n → u ≡ max (2 * (body / 65536)) s → t ≡ min u n →
-    take (t - s) (drop s parts) ≡ cellsIn parts (startIn rows row) (endIn rows row)
-cells-lent parts rows row {body} {n} {s} {u} {t} b p q r v =
-    clamped parts (2 * (body % 65536)) (2 * (body / 65536)) p q (v ∙ ap (λ k. min k n) r)
-    ∙ ap (λ k. cellsIn parts (k % 65536) (k / 65536)) b
 
 -- ---- is one of the entries from here on undefined
 

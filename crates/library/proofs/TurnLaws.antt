@@ -113,6 +113,17 @@ wants-is {w} {fault} {line} {before} a m = go (eqb fault 0) refl
     go true e = rw (goes-on a (eqb-true fault 0 e)) (ap (λ s. wanted s m) (sym (a .state-is (eqb-true fault 0 e))))
     go false e = rw (stands a (eqb-false fault 0 e))
 
+-- a walk that takes a module goes on
+pub taken-goes-on : (m : Module) (flag : Bool) {fault : ℕ} (before : List ℕ) {r : Bool} → r ≡ takes flag fault before m → not r ≡ false →
+    fault ≡ 0
+unfolding takes
+taken-goes-on m flag {fault} before {r} q n = go flag (eqb fault 0) refl (sym q ∙ not-false r n)
+  where
+    go : (b d : Bool) → eqb fault 0 ≡ d → (not b && (d && wanted (decode before) m)) ≡ true → fault ≡ 0
+    go true d e h = never h refl
+    go false true e h = eqb-true fault 0 e
+    go false false e h = never h refl
+
 module _ {m : Module} {flag : Bool} {fault line : ℕ} {before : List ℕ} {r : Bool} (q : r ≡ takes flag fault before m) where
   pub visit-left : Good before → not r ≡ true →
       Visited m flag fault line before (record { flag = flag; took = 0; fault = fault; line = line }) before

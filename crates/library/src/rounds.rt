@@ -1,8 +1,13 @@
 // The rounds of a section's search. Its modules are those of n rows from row `first` on.
+use crate::due::raise_from;
 use crate::taking::visit;
+ghost use mathlib.Core.Path.{_≡_};
+ghost use lib.ListN.{length};
 ghost use Rattle.tables.specs.Tables.{modulesIn};
 ghost use Rattle.state.specs.Good.{Good};
 ghost use Rattle.library.specs.Searching.{Section, Rounded, Sought};
+ghost use Rattle.entries.specs.Index.{Owns};
+ghost use Rattle.library.specs.Due.{Idle};
 
 // After a round: the flags of the modules taken, how many this round took, and the refusal.
 pub struct Round {
@@ -21,11 +26,14 @@ fn one_round(
     flags: [bool; 256],
     fault: u64,
     line: u64,
+    index: &[u64],
+    due: &mut [u8],
     state: &mut [u64],
 ) -> Round
     requires { ⌜ Section (now parts) (now rows) first n ⌝ }
+    requires { ⌜ Idle (now parts) (now rows) first n fault (now index) (now state) (now due) ⌝ }
     requires { ⌜ Good (now state) ⌝ }
-    ensures { λ r. ⌜ Rounded (modulesIn (now (parts .entry)) (now (rows .entry)) first n) flags fault line (now (state .entry)) r (now (state .exit)) ⌝ }
+    ensures { λ r. ⌜ Rounded (modulesIn (now (parts .entry)) (now (rows .entry)) first n) flags fault line (now (state .entry)) r (now (state .exit)) × Idle (now (parts .entry)) (now (rows .entry)) first n (r .fault) (now (index .entry)) (now (state .exit)) (now (due .exit)) ⌝ }
 {
     let mut marks = flags;
     let mut took = 0;
@@ -33,7 +41,19 @@ fn one_round(
     let mut at = line;
     let mut i = 0;
     while i < n {
-        let v = visit(parts, rows, first + i, marks[i], number, at, state);
+        let v = visit(
+            parts,
+            rows,
+            first,
+            n,
+            i,
+            marks[i],
+            number,
+            at,
+            index,
+            due,
+            state,
+        );
         marks[i] = v.flag;
         took += v.took;
         number = v.fault;
@@ -46,6 +66,28 @@ fn one_round(
         fault: number,
         line: at,
     }
+}
+
+// The flags at the start of a section; in a walk that is refused already, none.
+fn raise_all(
+    parts: &[u64],
+    rows: &[u64],
+    first: usize,
+    n: usize,
+    fault: u64,
+    index: &[u64],
+    state: &[u64],
+    due: &mut [u8],
+)
+    requires { ⌜ (fault ≡ 0 → Owns (now parts) (now rows) first n (now index)) ⌝ }
+    requires { ⌜ length (now due) ≡ 256 ⌝ }
+    requires { ⌜ Good (now state) ⌝ }
+    ensures { λ r. ⌜ Idle (now (parts .entry)) (now (rows .entry)) first n fault (now (index .entry)) (now (state .entry)) (now (due .exit)) ⌝ }
+{
+    if fault != 0 {
+        return;
+    }
+    raise_from(parts, index, 0, state, due);
 }
 
 // After a search: the refusal, and the number of rounds.
@@ -63,19 +105,34 @@ pub fn search(
     n: usize,
     fault: u64,
     line: u64,
+    index: &[u64],
     state: &mut [u64],
 ) -> Outcome
     requires { ⌜ Section (now parts) (now rows) first n ⌝ }
+    requires { ⌜ (fault ≡ 0 → Owns (now parts) (now rows) first n (now index)) ⌝ }
     requires { ⌜ Good (now state) ⌝ }
     ensures { λ r. ⌜ Sought (modulesIn (now (parts .entry)) (now (rows .entry)) first n) fault line (now (state .entry)) r (now (state .exit)) ⌝ }
 {
+    let mut due = [0u8; 256];
+    raise_all(parts, rows, first, n, fault, index, state, &mut due);
     let mut flags = [false; 256];
     let mut took = 1;
     let mut number = fault;
     let mut at = line;
     let mut rounds = 0;
     while 0 < took {
-        let r = one_round(parts, rows, first, n, flags, number, at, state);
+        let r = one_round(
+            parts,
+            rows,
+            first,
+            n,
+            flags,
+            number,
+            at,
+            index,
+            &mut due,
+            state,
+        );
         let marks = r.flags;
         flags = marks;
         took = r.took;

@@ -1,15 +1,21 @@
 // A module in turn: placed, and in a round visited. A refused walk stays as it is.
-use crate::modules::module_cells;
+use crate::due::raise_from;
 use crate::modules::row_line;
 use crate::modules::wants;
 use placing::place;
-ghost use Prim.Native.Nat.{_<_, _≤_};
+use state::header::symbol_count;
+use tables::module_cells;
+ghost use Prim.Native.Nat.{_+_, _<_, _≤_};
+ghost use mathlib.Core.Bool.{false};
 ghost use mathlib.Core.Path.{_≡_};
 ghost use lib.ListN.{length};
 ghost use Rattle.rules.specs.Placing.{externals};
+ghost use Rattle.rules.specs.Load.{wanted};
 ghost use Rattle.tables.specs.Tables.{moduleIn};
+ghost use Rattle.state.specs.Layout.{decode};
 ghost use Rattle.state.specs.Good.{Good};
-ghost use Rattle.library.specs.Searching.{PlacedRow, takes, Visited};
+ghost use Rattle.library.specs.Searching.{PlacedRow, Section, takes, Visited};
+ghost use Rattle.library.specs.Due.{Idle};
 
 // A refusal's number and line, 0 where there is none.
 pub struct Told {
@@ -52,9 +58,19 @@ pub struct Turn {
     pub line: u64,
 }
 
-// Is the module of a row to be taken: not taken yet, in a walk that goes on, and with an undefined entry?
-fn is_due(parts: &[u64], rows: &[u64], row: usize, flag: bool, fault: u64, state: &[u64]) -> bool
+// Is the module of a row to be taken: not taken yet, in a walk that goes on, and with an undefined entry? Where its flag `due` is
+// clear it has none.
+fn is_due(
+    parts: &[u64],
+    rows: &[u64],
+    row: usize,
+    flag: bool,
+    fault: u64,
+    due: u8,
+    state: &[u64],
+) -> bool
     requires { ⌜ row < 131072 ⌝ }
+    requires { ⌜ (fault ≡ 0 → due ≡ 0 → wanted (decode (now state)) (moduleIn (now parts) (now rows) row) ≡ false) ⌝ }
     requires { ⌜ Good (now state) ⌝ }
     ensures { λ r. ⌜ r ≡ takes flag fault (now (state .entry)) (moduleIn (now (parts .entry)) (now (rows .entry)) row) ⌝ }
 {
@@ -64,25 +80,33 @@ fn is_due(parts: &[u64], rows: &[u64], row: usize, flag: bool, fault: u64, state
     if fault != 0 {
         return false;
     }
+    if due == 0 {
+        return false;
+    }
     wants(module_cells(parts, rows, row), state)
 }
 
-// Takes the module of a row, if it is due.
+// Takes the i-th of n modules, if it is due.
 pub fn visit(
     parts: &[u64],
     rows: &[u64],
-    row: usize,
+    first: usize,
+    n: usize,
+    i: usize,
     flag: bool,
     fault: u64,
     line: u64,
+    index: &[u64],
+    due: &mut [u8],
     state: &mut [u64],
 ) -> Turn
-    requires { ⌜ row < 131072 ⌝ }
-    requires { ⌜ length (externals (moduleIn (now parts) (now rows) row)) ≤ 64 ⌝ }
+    requires { ⌜ Section (now parts) (now rows) first n × (i < n) ⌝ }
+    requires { ⌜ Idle (now parts) (now rows) first n fault (now index) (now state) (now due) ⌝ }
     requires { ⌜ Good (now state) ⌝ }
-    ensures { λ r. ⌜ Visited (moduleIn (now (parts .entry)) (now (rows .entry)) row) flag fault line (now (state .entry)) r (now (state .exit)) ⌝ }
+    ensures { λ r. ⌜ Visited (moduleIn (now (parts .entry)) (now (rows .entry)) (first + i)) flag fault line (now (state .entry)) r (now (state .exit)) × Idle (now (parts .entry)) (now (rows .entry)) first n (r .fault) (now (index .entry)) (now (state .exit)) (now (due .exit)) ⌝ }
 {
-    if !is_due(parts, rows, row, flag, fault, state) {
+    let row = first + i;
+    if !is_due(parts, rows, row, flag, fault, due[i], state) {
         return Turn {
             flag,
             took: 0,
@@ -90,7 +114,9 @@ pub fn visit(
             line,
         };
     }
+    let known = symbol_count(state);
     let t = place_row(parts, rows, row, fault, line, state);
+    raise_from(parts, index, known, state, due);
     Turn {
         flag: true,
         took: 1,

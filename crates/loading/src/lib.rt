@@ -33,7 +33,7 @@ fn answer(number: u64, line: u64, rounds: u64) -> LoadAnswer
 
 // The walk over n rows. A refusal leaves the state as it was, but for the broken mark.
 fn walk_file(parts: &[u64], rows: &[u64], n: usize, state: &mut [u64]) -> LoadAnswer
-    requires { ⌜ n ≤ 131072 ⌝ }
+    requires { ⌜ (n ≤ 131072) × (length (now parts) ≤ 131072) ⌝ }
     requires { ⌜ Every ItemSound (itemsIn (now parts) (now rows) n) ⌝ }
     requires { ⌜ Good (now state) ⌝ }
     ensures { λ r. ⌜ Loads (walked (decode (now (state .entry))) (walkFrom (decode (now (state .entry))) (itemsIn (now (parts .entry)) (now (rows .entry)) n))) r (now (state .exit)) ⌝ }

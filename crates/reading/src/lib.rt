@@ -6,13 +6,13 @@ use crate::fill::add_part;
 use crate::fill::close_module;
 use crate::fill::close_section;
 use crate::fill::nothing;
+use lines::line_from;
 use record::line_answer;
 use rules::reading::Reading;
 use rules::reading::Step;
 use steps::lines::at_end;
 use steps::lines::step_of;
 use steps::modes::at_start;
-use text::lines::next_line;
 ghost use mathlib.Core.Path.{_≡_};
 ghost use Rattle.rules.specs.declared.reading.Reading.the-variants.{Stopped};
 ghost use Rattle.reading.specs.Filling.{fileRead, Lent, ReadInto};
@@ -50,9 +50,9 @@ pub fn read_file(file: &[u8], parts: &mut [u64], rows: &mut [u64]) -> FileRead
     let mut at = 0;
     while at < file.len() {
         let n = line;
-        let span = next_line(file, at);
+        let span = line_from(file, at);
         let wanted = mode.wanted;
-        let answer = line_answer(file, at, span.stop, wanted);
+        let answer = line_answer(file, at, span.stop, span.front, wanted);
         let step = step_of(n, mode, answer);
         at = span.next;
         line += 1;

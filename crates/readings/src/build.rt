@@ -1,17 +1,21 @@
-// Files that are built of repeated pieces.
-use crate::show::say;
-use crate::show::show;
+// A file put together of the lines of the script. What does not fit into it is left out.
+use script::between;
+use script::byte;
+use script::next_line;
+use script::number_of;
+ghost use Prim.Native.Nat.{_<_, _≤_};
+ghost use lib.ListN.{length};
 
-// A byte behind the first `at`; where the file is full it is left out.
-fn put_byte(out: &mut [u8; 65536], at: usize, byte: u8) -> usize {
+fn put_byte(out: &mut [u8; 65536], at: usize, b: u8) -> usize {
     if at < 65536 {
-        out[at] = byte;
+        out[at] = b;
         return at + 1;
     }
     at
 }
 
-fn put(out: &mut [u8; 65536], at: usize, text: &[u8]) -> usize {
+// The text as it stands.
+pub fn put(out: &mut [u8; 65536], at: usize, text: &[u8]) -> usize {
     let mut end = at;
     let mut i = 0;
     while i < text.len() {
@@ -21,94 +25,119 @@ fn put(out: &mut [u8; 65536], at: usize, text: &[u8]) -> usize {
     end
 }
 
-fn repeat(out: &mut [u8; 65536], at: usize, text: &[u8], times: usize) -> usize {
+fn hex_digit(b: u8) -> u8 {
+    if b < 58 { b % 16 } else { b % 16 + 9 }
+}
+
+// The byte that a text starts with, by its escape or as it stands.
+fn first_byte(text: &[u8]) -> u8 {
+    if byte(text, 0) != b'\\' {
+        return byte(text, 0);
+    }
+    match byte(text, 1) {
+        b'n' => 10,
+        b'r' => 13,
+        _ => hex_digit(byte(text, 2)) % 16 * 16 + hex_digit(byte(text, 3)) % 16,
+    }
+}
+
+// How long that byte is in the text.
+fn first_length(text: &[u8]) -> usize
+    ensures { λ r. ⌜ 0 < r ⌝ }
+{
+    if byte(text, 0) != b'\\' {
+        return 1;
+    }
+    if byte(text, 1) == b'x' {
+        return 4;
+    }
+    2
+}
+
+// i plus n, at most `most`.
+fn ahead(i: usize, n: usize, most: usize) -> usize
+    requires { ⌜ i < most ⌝ }
+    requires { ⌜ 0 < n ⌝ }
+    ensures { λ r. ⌜ i < r ⌝ }
+    ensures { λ r. ⌜ r ≤ most ⌝ }
+{
+    if n < most - i { i + n } else { most }
+}
+
+// The text with its escapes turned into bytes.
+pub fn put_escaped(out: &mut [u8; 65536], at: usize, text: &[u8]) -> usize {
     let mut end = at;
-    let mut k: usize = 0;
+    let mut i = 0;
+    while i < text.len() {
+        let rest = between(text, i, text.len());
+        end = put_byte(out, end, first_byte(rest));
+        i = ahead(i, first_length(rest), text.len());
+    }
+    end
+}
+
+fn put_times(out: &mut [u8; 65536], at: usize, text: &[u8], times: u64) -> usize {
+    let mut end = at;
+    let mut k: u64 = 0;
     while k < times {
-        end = put(out, end, text);
+        end = put_escaped(out, end, text);
         k += 1;
     }
     end
 }
 
-fn show_front(label: &[u8], out: &[u8], size: usize) {
-    if size <= out.len() {
-        show(label, &out[..size]);
+// Where the first space stands; the end where there is none.
+fn first_space(text: &[u8]) -> usize
+    ensures { λ r. ⌜ r ≤ length (now (text .entry)) ⌝ }
+{
+    let mut i = 0;
+    while i < text.len() {
+        if text[i] == b' ' {
+            return i;
+        }
+        i += 1;
     }
+    i
+}
+
+// What stands behind the byte at `at`, without the line's end.
+fn behind(line: &[u8], at: usize) -> &[u8] {
+    if line.len() < 2 {
+        return line;
+    }
+    if at >= line.len() - 1 {
+        return line;
+    }
+    between(line, at + 1, line.len() - 1)
+}
+
+// A line of the script, with its end; or of `\n text` the text n times.
+fn put_line(out: &mut [u8; 65536], at: usize, line: &[u8]) -> usize {
+    if byte(line, 0) != b'\\' {
+        return put(out, at, line);
+    }
+    let gap = first_space(line);
+    put_times(out, at, behind(line, gap), number_of(between(line, 1, gap)))
+}
+
+// The turns bound the loop; a script has fewer lines.
+pub fn put_lines(out: &mut [u8; 65536], lines: &[u8]) -> usize {
+    let mut end: usize = 0;
+    let mut at: usize = 0;
+    let mut turns: u64 = 65536;
+    while turns > 0 {
+        if at >= lines.len() {
+            return end;
+        }
+        let next = next_line(lines, at);
+        end = put_line(out, end, between(lines, at, next));
+        at = next;
+        turns -= 1;
+    }
+    end
 }
 
 // An array lent as a slice has its length, whatever was put into it.
-fn show_file(label: &[u8], out: &[u8; 65536], size: usize) {
-    show_front(label, out, size);
-}
-
-// `head`, `one` so many times, `between`, `two` so many times, `tail`.
-pub fn show_built(
-    label: &[u8],
-    head: &[u8],
-    one: &[u8],
-    ones: usize,
-    between: &[u8],
-    two: &[u8],
-    twos: usize,
-    tail: &[u8],
-) {
-    let mut out = [0u8; 65536];
-    let mut size = put(&mut out, 0, head);
-    size = repeat(&mut out, size, one, ones);
-    size = put(&mut out, size, between);
-    size = repeat(&mut out, size, two, twos);
-    size = put(&mut out, size, tail);
-    show_file(label, &out, size);
-}
-
-// A record in a module that its header leaves open for one. The record is at line 4 and is its own label.
-fn show_record(kind: &[u8], header: &[u8], record: &[u8]) {
-    say(kind);
-    show_built(
-        record,
-        b"3 ***TITLE\nA\n",
-        header,
-        1,
-        record,
-        b"",
-        0,
-        b"\n1 ***END\nA\n",
-    );
-}
-
-pub fn show_entry_record(record: &[u8]) {
-    show_record(b"entry record ", b"4 1 ***ENTRY\n", record);
-}
-
-pub fn show_external_record(record: &[u8]) {
-    show_record(b"external record ", b"5 1 ***EXT\n", record);
-}
-
-pub fn show_code_record(record: &[u8]) {
-    show_record(b"code record ", b"0 1 0 ***CODE\n", record);
-}
-
-pub fn show_data_record(record: &[u8]) {
-    show_record(b"data record ", b"10 1 X 0 ***DBDB\n", record);
-}
-
-pub fn show_init_record(record: &[u8]) {
-    show_record(b"init record ", b"11 1 ***DBIB\n", record);
-}
-
-pub fn show_parameter_record(record: &[u8]) {
-    show_record(b"parameter record ", b"12 1 ***FPB\n", record);
-}
-
-// A header and nothing else.
-pub fn show_header(header: &[u8]) {
-    say(b"header ");
-    show(header, header);
-}
-
-// A header in a module, at line 3, and nothing else.
-pub fn show_inside(header: &[u8]) {
-    say(b"in a module ");
-    show_built(header, b"3 ***TITLE\nA\n", header, 1, b"", b"", 0, b"");
+pub fn front(out: &[u8; 65536], size: usize) -> &[u8] {
+    between(out, 0, size)
 }

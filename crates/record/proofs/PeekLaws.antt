@@ -5,16 +5,16 @@ use native.Mathlib.Omega.{arith}
 use mathlib.Core.Bool.{Bool, true, false}
 use mathlib.Core.List.{List, [], _∷_}
 use mathlib.Core.Path.{_≡_, refl, sym, ap, ap₂, _∙_}
-use lib.ListN.{length}
+use lib.ListN.{length, getD}
 use borrow.Author.Tests.{ne-eqb, ltb-true, ltb-false}
 use lib.Dec.{ltb}
 use denote.Ref.{RefT, now}
 use Rattle.rules.specs.Text.{Field, fieldsFrom, fieldsOf}
-use Rattle.rules.specs.Line.{firstText, textAt}
+use Rattle.rules.specs.Line.{sameText, firstText, starred, textAt}
 use Rattle.text.specs.Scan.{part, InFile}
 use Rattle.text.specs.FieldBounds.{fieldStart, fieldStop, first, NextField}
 use Rattle.text.proofs.FieldLaws.{field, next-field, field-found, no-field, start-least, start-most, stop-most}
-use Rattle.text.proofs.ScanLaws.{part-nil}
+use Rattle.text.proofs.ScanLaws.{part-nil, part-cons}
 use Rattle.record.specs.Fitting.{lineFields, FieldPassed}
 
 first-text : (c : ℕ) (t : List ℕ) (others : List Field) → firstText (first (field c t) others) ≡ t
@@ -30,6 +30,40 @@ next-text n = ap firstText (n .fields 1) ∙ first-text _ _ _
 -- what a test of that text told
 pub seen : (test : List ℕ → Bool) {t u : List ℕ} {x b : Bool} → t ≡ u → x ≡ test u → x ≡ b → test t ≡ b
 seen test e g h = ap test e ∙ sym g ∙ h
+
+-- ---- an asterisk in front
+
+other-first : (b : ℕ) (rest : List ℕ) → (b ≡ 42 → ⊥) → false ≡ sameText (b ∷ rest) (42 ∷ [])
+unfolding sameText
+other-first b rest n = simp (ne-eqb b 42 n)
+
+none-first : (l : List ℕ) → l ≡ [] → false ≡ sameText l (42 ∷ [])
+unfolding sameText
+none-first l e = rw e
+
+module _ (at stop s : ℕ) (l : List ℕ) (h : InFile at stop l) (e : s ≡ fieldStart at stop l) where
+  abbrev end : ℕ
+  end = fieldStop at stop l
+
+  first-is : firstText (lineFields at stop l) ≡ part s end l
+  unfolding fieldsOf
+  first-is =
+      ap firstText (next-field at stop l h 1) ∙ first-text _ _ _ ∙ ap (λ (k : ℕ). part k end l) (sym e)
+
+  -- there is no field
+  pub star-none : s ≡ stop → false ≡ starred (lineFields at stop l)
+  star-none g = none-first _ (first-is ∙ part-nil s end l (omega (arith, stop-most at stop l h)))
+
+  -- another byte stands in front of the first field
+  pub star-not : (getD l s 0 ≡ 42 → ⊥) → false ≡ starred (lineFields at stop l)
+  star-not n = go (ltb s end) refl
+    where
+      go : (x : Bool) → ltb s end ≡ x → false ≡ starred (lineFields at stop l)
+      go true x =
+          let m : end ≤ length l = omega (arith, stop-most at stop l h, h .size) in
+          other-first (getD l s 0) (part (s + 1) end l) n
+          ∙ ap (λ (t : List ℕ). sameText t (42 ∷ [])) (sym (first-is ∙ part-cons s end l (ltb-true s end x) m))
+      go false x = none-first _ (first-is ∙ part-nil s end l (ltb-false s end x))
 
 -- ---- further fields
 

@@ -16,10 +16,10 @@ use Rattle.rules.specs.declared.line.Kind.{Kind}
 use Rattle.rules.specs.declared.line.Relocation.the-variants.{Plain}
 use Rattle.rules.specs.declared.line.LineAnswer.{LineAnswer}
 use Rattle.rules.specs.declared.line.LineAnswer.the-variants.{Bad, Code}
-use Rattle.text.specs.Scan.{part, InFile}
-use Rattle.text.specs.FieldBounds.{fieldStart, fieldStop}
-use Rattle.text.specs.Answers.{numberIn}
-use Rattle.text.specs.declared.numbers.Number.{Number as AnyNumber}
+use Rattle.text.specs.Scan.{InFile}
+use Rattle.text.specs.FieldBounds.{fieldStart}
+use Rattle.text.specs.Digits.{fieldText, FieldRead}
+use Rattle.text.specs.declared.numbers.NumberField.{NumberField}
 use Rattle.text.specs.declared.numbers.Number.the-variants.{Value, NotANumber}
 use Rattle.record.specs.Fitting.{lineFields, endColumn}
 use Rattle.record.specs.Shapes.{recordShapes, shapeOf, shapeLine}
@@ -107,12 +107,12 @@ module _ {at stop : ℕ} {l : List ℕ} {text i k : ℕ} (q : Quarters at stop l
     pub quarters-few : s ≡ stop → {a : LineAnswer} → a ≡ Bad (fault FieldCount (endColumn at stop)) → Says a
     quarters-few g b = told b (fitting-few s e next g)
 
-    module _ (g : s < stop) (t : List ℕ) (b : t ≡ part (fieldStart s stop l) (fieldStop s stop l) l)
-        {r : AnyNumber} (a : numberIn r ≡ numberOf t) where
-      pub quarters-wrong : r ≡ NotANumber → {o : LineAnswer} → o ≡ Bad (fault BadNumber (s - at + 1)) → Says o
-      quarters-wrong w o = told o (fitting-wrong s e next g t b (number-no 0 65535 BadNumber t a w))
+    module _ (g : s < stop) {n : NumberField} (f : FieldRead s stop l n) where
+      pub quarters-wrong : n .number ≡ NotANumber → {o : LineAnswer} → o ≡ Bad (fault BadNumber (s - at + 1)) → Says o
+      quarters-wrong w o =
+          told o (fitting-wrong s e next g _ refl (number-no 0 65535 BadNumber (fieldText s stop l) (f .is) w))
 
-      pub quarters-step : {v : ℕ} → r ≡ Value v → v ≤ 65535 → Quarters at stop l (text * 65536 + v) (s + length t) (k + 1)
+      pub quarters-step : {v : ℕ} → n .number ≡ Value v → v ≤ 65535 → Quarters at stop l (text * 65536 + v) (n .end) (k + 1)
       quarters-step {v} w most =
           record {
             few = omega arith;
@@ -121,7 +121,9 @@ module _ {at stop : ℕ} {l : List ℕ} {text i k : ℕ} (q : Quarters at stop l
             done = q .done ++ (v ∷ []);
             count = length-append (q .done) (v ∷ []) ∙ ap (λ (n : ℕ). n + 1) (q .count);
             is = ap (λ (n : ℕ). n * 65536 + v) (q .is) ∙ sym (joined-more 0 (q .done) v);
-            fitting = fitting-step s e next g t b (number-yes 0 65535 BadNumber t a w (omega arith) most);
+            fitting =
+                rw (f .ends)
+                (fitting-step s e next g _ refl (number-yes 0 65535 BadNumber (fieldText s stop l) (f .is) w (omega arith) most));
           }
 
   module _ (h : 4 ≤ k) {s : ℕ} (e : s ≡ fieldStart i stop l) where

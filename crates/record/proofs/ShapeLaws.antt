@@ -77,30 +77,28 @@ letters = bytes ".nnA.B.D.nE.nF.G.H.nxnI.nJ.nK.nL.nnnn0rnxntnxntxxxnn.....nnsnn"
 abbrev inBounds : ℕ → ℕ → Bool
 inBounds a e = leb a e && (leb e 62 && leb (e - a) 8)
 
+abbrev codedAt : ℕ → ℕ → Bool × List Kind
+codedAt a e = (inBounds a e, map kindOf (part a e letters))
+
 abbrev coded : ℕ → Bool × List Kind
-coded s =
-    (inBounds (nth starts s) (nth starts (s + 1)), map kindOf (part (nth starts s) (nth starts (s + 1)) letters))
+coded s = codedAt (nth starts s) (nth starts (s + 1))
 
 table : tabulate coded 22 ≡ tabulate (λ s. (true, shapeOf s .kinds)) 22
 unfolding tabulate starts letters bytes part kindOf shapeOf recordShapes headerShape rowOf rowIn headers
 table = refl
 
--- the kinds of shape s stand between its start and the next
-abbrev pub kindsIn : ℕ → List ℕ
-kindsIn s = part (nth starts s) (nth starts (s + 1)) letters
+-- the kinds of shape s stand between a and e
+pub record Shaped (s a e : ℕ) : Type 0 where
+  pub order : a ≤ e
+  pub size : e ≤ 62
+  pub few : length (part a e letters) ≤ 8
+  pub is : map kindOf (part a e letters) ≡ shapeOf s .kinds
 
-pub record Shaped (s : ℕ) : Type 0 where
-  pub order : nth starts s ≤ nth starts (s + 1)
-  pub size : nth starts (s + 1) ≤ 62
-  pub few : length (kindsIn s) ≤ 8
-  pub is : map kindOf (kindsIn s) ≡ shapeOf s .kinds
-
-pub shaped : (s : ℕ) → s < 22 → Shaped s
+-- where a and e are its start and the next
+pub shaped : (s : ℕ) → s < 22 → {a e : ℕ} → a ≡ nth starts s → e ≡ nth starts (s + 1) → Shaped s a e
 unfolding letters bytes
-shaped s h =
-    let a = nth starts s in
-    let e = nth starts (s + 1) in
-    let p = at-place coded (λ k. (true, shapeOf k .kinds)) 22 table s h in
+shaped s h {a} {e} f g =
+    let p : codedAt a e ≡ (true, shapeOf s .kinds) = rw (f, g) (at-place coded (λ k. (true, shapeOf k .kinds)) 22 table s h) in
     let bounds = ap (λ (x : Bool × List Kind). x .0) p in
     let tests = and-right (leb a e) _ bounds in
     let size = leb-true e 62 (and-left (leb e 62) _ tests) in
@@ -127,10 +125,9 @@ says ks r e answer = rw (← e) (go (r .fits))
     go true = refl
     go false = refl
 
-module _ (s at stop : ℕ) (l : List ℕ) (r : FieldsRead) {a : LineAnswer} (h : s < 22) where
-  pub shape-says : asFitted (map kindOf (kindsIn s)) r ≡ fitLine (map kindOf (kindsIn s)) at stop l →
+module _ (s at stop : ℕ) (l : List ℕ) (r : FieldsRead) {a : LineAnswer} (ks : List ℕ) (is : map kindOf ks ≡ shapeOf s .kinds) where
+  pub shape-says : asFitted (map kindOf ks) r ≡ fitLine (map kindOf ks) at stop l →
       ((names : List ℕ) → nth names 0 ≡ nth (r .names) 0 → a ≡ saidBy (shapeOf s) (r .numbers) names) →
       cond (r .fits) a (Bad (r .fault)) ≡ shapeLine s (endColumn at stop) (lineFields at stop l)
   unfolding shapeLine saidBy fitLine
-  shape-says e f =
-      rw (f (r .names) refl) (says (shapeOf s .kinds) r (rw (shaped s h .is) at e) (shapeOf s .says))
+  shape-says e f = rw (f (r .names) refl) (says (shapeOf s .kinds) r (rw is at e) (shapeOf s .says))

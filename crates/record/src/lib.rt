@@ -15,8 +15,8 @@ use rules::line::FaultKind;
 use rules::line::LineAnswer;
 use rules::line::Wanted;
 use text::fields::field_start;
-use text::lines::legal_front;
 ghost use mathlib.Core.Path.{_≡_};
+ghost use Rattle.rules.specs.Text.{legalFront};
 ghost use Rattle.rules.specs.Line.{lineOf, testBytes, lineAnswer};
 ghost use Rattle.text.specs.Scan.{part, InFile};
 ghost use Rattle.record.specs.Fitting.{endColumn, lineFields};
@@ -67,11 +67,12 @@ fn test_bytes(front: usize, size: usize, answer: LineAnswer) -> LineAnswer
     }
 }
 
-// What the line from `at` to `stop` of the file says, given what is wanted of it.
-pub fn line_answer(file: &[u8], at: usize, stop: usize, wanted: Wanted) -> LineAnswer
+// What the line from `at` to `stop` of the file says, given what is wanted of it; `front` of its bytes are legal before one is
+// not.
+pub fn line_answer(file: &[u8], at: usize, stop: usize, front: usize, wanted: Wanted) -> LineAnswer
     requires { ⌜ InFile at stop (now file) ⌝ }
+    requires { ⌜ front ≡ legalFront 80 (part at stop (now file)) ⌝ }
     ensures { λ r. ⌜ r ≡ lineAnswer wanted (part at stop (now (file .entry))) ⌝ }
 {
-    let front = legal_front(file, at, stop);
     test_bytes(front, stop - at, fields_say(file, at, stop, wanted))
 }

@@ -12,6 +12,7 @@ use text::fields::field_start;
 use text::fields::next_field;
 use text::markers::is_star;
 use text::numbers::Number;
+use text::numbers::field_number;
 use text::numbers::read_number;
 ghost use mathlib.Core.Bool.{false};
 ghost use mathlib.Core.Path.{_≡_};
@@ -34,11 +35,12 @@ fn plain_line(file: &[u8], at: usize, stop: usize) -> LineAnswer
         if start == stop {
             return bad(FaultKind::FieldCount, stop - at + 1);
         }
-        let field = next_field(file, start, stop);
-        match read_number(field) {
+        let field = field_number(file, start, stop);
+        let number = field.number;
+        match number {
             Number::Value(quarter) => {
                 text = text * 65536 + quarter as u64;
-                i = start + field.len();
+                i = field.end;
                 k += 1;
             }
             Number::NotANumber => return bad(FaultKind::BadNumber, start - at + 1),
@@ -54,11 +56,26 @@ fn plain_line(file: &[u8], at: usize, stop: usize) -> LineAnswer
     })
 }
 
+// Is the line's first field an asterisk? Of most lines the first byte tells.
+fn is_starred(file: &[u8], at: usize, stop: usize) -> bool
+    requires { ⌜ InFile at stop (now file) ⌝ }
+    ensures { λ r. ⌜ r ≡ starred (lineFields at stop (now (file .entry))) ⌝ }
+{
+    let start = field_start(file, at, stop);
+    if start == stop {
+        return false;
+    }
+    if file[start] != b'*' {
+        return false;
+    }
+    is_star(next_field(file, at, stop))
+}
+
 pub fn code_line(file: &[u8], at: usize, stop: usize) -> LineAnswer
     requires { ⌜ InFile at stop (now file) ⌝ }
     ensures { λ r. ⌜ r ≡ codeLine (endColumn at stop) (lineFields at stop (now (file .entry))) ⌝ }
 {
-    if is_star(next_field(file, at, stop)) {
+    if is_starred(file, at, stop) {
         return read_as(file, at, stop, STARRED);
     }
     plain_line(file, at, stop)

@@ -6,6 +6,7 @@ use rules::line::Entry;
 use rules::line::Header;
 use rules::line::LineAnswer;
 use rules::line::Relocation;
+use text::scan::position;
 ghost use mathlib.Core.List.{List};
 ghost use mathlib.Core.Path.{_≡_};
 ghost use Prim.Native.Nat.{ℕ, _<_};
@@ -109,7 +110,8 @@ fn answer(shape: usize, n: [u16; 8], name: u64) -> LineAnswer
 }
 
 // Where the kinds of each shape start among all kinds: they stop where the next ones start. No block has code 2.
-const STARTS: [usize; 23] = [
+// A table is built anew at each use: bytes are quicker than numbers.
+const STARTS: [u8; 23] = [
     0,
     4,
     6,
@@ -142,8 +144,8 @@ pub fn read_as(file: &[u8], at: usize, stop: usize, shape: usize) -> LineAnswer
     ensures { λ r. ⌜ r ≡ shapeLine shape (endColumn at stop) (lineFields at stop (now (file .entry))) ⌝ }
 {
     let kinds: &[u8] = b".nnA.B.D.nE.nF.G.H.nxnI.nJ.nK.nL.nnnn0rnxntnxntxxxnn.....nnsnn";
-    let start = STARTS[shape];
-    let end = STARTS[shape + 1];
+    let start = position(STARTS[shape]);
+    let end = position(STARTS[shape + 1]);
     let r = fit(file, at, stop, &kinds[start..end]);
     let fault = r.fault;
     let numbers = r.numbers;

@@ -2,17 +2,17 @@
 -- Assumes nothing.
 use Prim.Native.Nat.{ℕ, zero, suc, _+_, _-_, _≤_, _<_, min}
 use native.Mathlib.Omega.{arith}
-use mathlib.Core.Bool.{Bool, true, false, cond, not, _&&_}
+use mathlib.Core.Bool.{Bool, true, false, cond, not, _&&_, true≢false}
 use mathlib.Core.List.{List, [], _∷_}
 use mathlib.Core.Path.{_≡_, refl, sym, ap, ap₂, _∙_}
 use lib.ListN.{length, take, drop, getD, length-drop, drop-of-length-le}
-use lib.Seq.{drop-drop, getD-drop, take-all}
+use lib.Seq.{drop-drop, getD-drop}
 use lib.Dec.{eqb}
-use borrow.Author.Tests.{eq-eqb, ne-eqb}
+use borrow.Author.Tests.{eq-eqb, ne-eqb, eqb-true}
 use Rattle.rules.specs.Text.{LF, CR, linesOf, addToLines, startsLF, widenLine, legalFront}
 use Rattle.text.specs.Scan.{part, run, past, isNot, Found}
-use Rattle.text.specs.LineEnds.{lineNext, NextLine, isLegal, legalEnd}
-use Rattle.text.proofs.ScanLaws.{part-all, part-front, take-part, length-part, run-yes, run-no, and-false}
+use Rattle.text.specs.LineEnds.{lineNext, NextLine, isLegal, legalEnd, frontOf}
+use Rattle.text.proofs.ScanLaws.{part-nil, part-all, part-front, run-yes, run-no, run-take, past-through, and-false}
 
 -- how many bytes stand before the first LF
 abbrev width : List ℕ → ℕ
@@ -110,6 +110,54 @@ first-line b (x ∷ xs) h = go (eqb b LF) refl (eqb x LF) refl (λ k. first-line
     go false e true f ih = first-CRLF b x xs e f (eqb b CR) refl
     go false e false f ih = first-more b x xs e f (ih (omega (arith, width-more b (x ∷ xs) e)))
 
+-- ---- legal bytes
+
+-- at most n legal bytes at the front are the legal bytes at the front of the first n
+legal-run : (n : ℕ) (l : List ℕ) → legalFront n l ≡ run isLegal (take n l)
+unfolding legalFront run
+legal-run zero [] = refl
+legal-run zero (b ∷ rest) = refl
+legal-run (suc n) [] = refl
+legal-run (suc n) (b ∷ rest) = ap (λ (k : ℕ). cond (isLegal b) (suc k) 0) (legal-run n rest)
+
+-- where the first illegal byte of the file from the line's start on is known
+pub front-is :
+    (at stop illegal : ℕ) (file : List ℕ) → at ≤ stop → stop ≤ length file
+    → Found at (length file) (legalEnd at (length file) file) illegal
+    → frontOf at illegal stop ≡ legalFront 80 (part at stop file)
+unfolding legalEnd past part
+front-is at stop illegal file h g f =
+    rw (legal-run 80 (part at stop file), run-take isLegal 80 (part at stop file), run-take isLegal (stop - at) (drop at file))
+    (omega (arith, rw (part-all at file) at (f .is)))
+
+-- an empty line
+pub front-none : (at : ℕ) (file : List ℕ) → legalFront 80 (part at at file) ≡ 0
+unfolding legalFront
+front-none at file = rw (part-nil at at file (omega arith))
+
+legal-more : (b : ℕ) → isLegal b ≡ true → isNot LF b ≡ true
+legal-more b e = go (eqb b LF) refl
+  where
+    go : (t : Bool) → eqb b LF ≡ t → not t ≡ true
+    go true f = absurd (true≢false (sym e ∙ ap isLegal (eqb-true b LF f)))
+    go false f = refl
+
+-- an LF is no legal byte: it stands behind the legal ones
+pub LF-behind :
+    (at illegal lf : ℕ) (file : List ℕ) → Found at (length file) (legalEnd at (length file) file) illegal
+    → Found illegal (length file) (past (isNot LF) illegal (length file) file) lf
+    → Found at (length file) (past (isNot LF) at (length file) file) lf
+unfolding legalEnd
+LF-behind at illegal lf file f g =
+    record {
+      is =
+          g .is
+          ∙ ap (λ (k : ℕ). past (isNot LF) k (length file) file) (f .is)
+          ∙ past-through (isNot LF) isLegal legal-more at (length file) file;
+      least = omega (arith, f .least, g .least);
+      most = g .most;
+    }
+
 -- ---- the same by positions
 
 size-most : (w : ℕ) (l : List ℕ) → size w l ≤ w
@@ -149,8 +197,10 @@ module _ (at lf : ℕ) (file : List ℕ) (f : Found at (length file) (past (isNo
   next-is = rw (← (f .is))
 
   -- no LF: the line stops with the file
-  pub stops-with-file : at < length file → lf ≡ length file → NextLine at file (record { stop = lf; next = lf })
-  stops-with-file h e =
+  pub stops-with-file :
+      at < length file → lf ≡ length file → {k : ℕ} → k ≡ legalFront 80 (part at lf file)
+      → NextLine at file (record { stop = lf; next = lf; front = k })
+  stops-with-file h e g =
       record {
         lines =
             only-line (drop at file)
@@ -162,13 +212,15 @@ module _ (at lf : ℕ) (file : List ℕ) (f : Found at (length file) (past (isNo
         stops = omega arith;
         moves = omega arith;
         ends = omega arith;
+        fronts = g;
       }
 
   -- an LF, with the size of the line before it
   stops-at :
       (stop : ℕ) → lf < length file → at + size (lf - at) (drop at file) ≡ stop
-      → NextLine at file (record { stop = stop; next = lf + 1 })
-  stops-at stop h e =
+      → {k : ℕ} → k ≡ legalFront 80 (part at stop file)
+      → NextLine at file (record { stop = stop; next = lf + 1; front = k })
+  stops-at stop h e g =
       let k : at + suc (lf - at) ≡ lf + 1 = omega (arith, f .least) in
       record {
         lines =
@@ -181,12 +233,15 @@ module _ (at lf : ℕ) (file : List ℕ) (f : Found at (length file) (past (isNo
         stops = omega (arith, size-most (lf - at) (drop at file));
         moves = omega (arith, f .least);
         ends = omega arith;
+        fronts = g;
       }
 
   module _ (h : lf < length file) where
-    pub stops-empty : lf ≡ at → NextLine at file (record { stop = lf; next = lf + 1 })
+    pub stops-empty : lf ≡ at → NextLine at file (record { stop = lf; next = lf + 1; front = 0 })
     unfolding size
-    stops-empty e = stops-at lf h (let k : lf - at ≡ 0 = omega arith in rw k (omega arith))
+    stops-empty e =
+        stops-at lf h (let k : lf - at ≡ 0 = omega arith in rw k (omega arith))
+        (sym (front-none at file) ∙ ap (λ (k : ℕ). legalFront 80 (part at k file)) (sym e))
 
     module _ (g : lf ≡ at → ⊥) where
       w : 0 < lf - at
@@ -201,33 +256,12 @@ module _ (at lf : ℕ) (file : List ℕ) (f : Found at (length file) (past (isNo
       size-is true e = omega (arith, rw (last-byte, e) at (size-at (lf - at) (drop at file) w))
       size-is false e = omega (arith, rw (last-byte, e) at (size-at (lf - at) (drop at file) w))
 
-      pub stops-CRLF : getD file (lf - 1) 0 ≡ CR → NextLine at file (record { stop = lf - 1; next = lf + 1 })
+      pub stops-CRLF :
+          getD file (lf - 1) 0 ≡ CR → {k : ℕ} → k ≡ legalFront 80 (part at (lf - 1) file)
+          → NextLine at file (record { stop = lf - 1; next = lf + 1; front = k })
       stops-CRLF e = stops-at (lf - 1) h (size-is true (eq-eqb _ _ e))
 
-      pub stops-LF : (getD file (lf - 1) 0 ≡ CR → ⊥) → NextLine at file (record { stop = lf; next = lf + 1 })
+      pub stops-LF :
+          (getD file (lf - 1) 0 ≡ CR → ⊥) → {k : ℕ} → k ≡ legalFront 80 (part at lf file)
+          → NextLine at file (record { stop = lf; next = lf + 1; front = k })
       stops-LF e = stops-at lf h (size-is false (ne-eqb _ _ e))
-
--- ---- legal bytes
-
--- at most n legal bytes at the front are the legal bytes at the front of the first n
-legal-run : (n : ℕ) (l : List ℕ) → legalFront n l ≡ run isLegal (take n l)
-unfolding legalFront run
-legal-run zero [] = refl
-legal-run zero (b ∷ rest) = refl
-legal-run (suc n) [] = refl
-legal-run (suc n) (b ∷ rest) = ap (λ (k : ℕ). cond (isLegal b) (suc k) 0) (legal-run n rest)
-
-module _ (at stop r : ℕ) (file : List ℕ) where
-  pub legal-cut :
-      80 < stop - at → Found at (at + 80) (legalEnd at (at + 80) file) r
-      → r - at ≡ legalFront 80 (part at stop file)
-  unfolding legalEnd past
-  legal-cut h f = rw (legal-run 80 (part at stop file), take-part at stop 80 file (omega arith)) (omega (arith, f .is))
-
-  pub legal-whole :
-      stop ≤ length file → stop - at ≤ 80 → Found at stop (legalEnd at stop file) r
-      → r - at ≡ legalFront 80 (part at stop file)
-  unfolding legalEnd past
-  legal-whole g h f =
-      rw (legal-run 80 (part at stop file), take-all 80 (part at stop file) (omega (arith, length-part at stop file g)))
-      (omega (arith, f .is))

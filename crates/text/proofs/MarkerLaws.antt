@@ -110,11 +110,11 @@ starts = 0 ∷ 7 ∷ 13 ∷ 13 ∷ 21 ∷ 29 ∷ 35 ∷ 41 ∷ 47 ∷ 54 ∷ 61 
 unfoldable pub markers : List ℕ
 markers = bytes "***CODE***END***TITLE***ENTRY***EXT***LSB***LEB***DBDB***DBIB***FPB***AENTRY"
 
--- the marker of the block with code k stands between its start and the next
-pub record Marked (k : ℕ) : Type 0 where
-  pub order : getD starts k 0 ≤ getD starts (k + 1) 0
-  pub size : getD starts (k + 1) 0 ≤ 76
-  pub is : part (getD starts k 0) (getD starts (k + 1) 0) markers ≡ markerOf k
+-- the marker of the block with code k stands between a and e
+pub record Marked (k a e : ℕ) : Type 0 where
+  pub order : a ≤ e
+  pub size : e ≤ 76
+  pub is : part a e markers ≡ markerOf k
 
 abbrev inTable : ℕ → ℕ → ℕ → Bool
 inTable k a e = leb a e && (leb e 76 && sameText (part a e markers) (markerOf k))
@@ -126,11 +126,10 @@ table : upTo 12 isMarked ≡ true
 unfolding upTo starts markers part bytes sameText markerIn rowOf rowIn headers
 table = refl
 
-pub marked : (k : ℕ) → k < 12 → Marked k
-marked k h =
-    let a = getD starts k 0 in
-    let e = getD starts (k + 1) 0 in
-    let t : isMarked k ≡ true = below 12 isMarked table k h in
+-- where a and e are its start and the next
+pub marked : (k : ℕ) → k < 12 → {a e : ℕ} → a ≡ getD starts k 0 → e ≡ getD starts (k + 1) 0 → Marked k a e
+marked k h {a} {e} f g =
+    let t : inTable k a e ≡ true = rw (f, g) (below 12 isMarked table k h) in
     let u : leb e 76 && sameText (part a e markers) (markerOf k) ≡ true = and-right (leb a e) _ t in
     record {
       order = leb-true a e (and-left (leb a e) _ t);

@@ -1,6 +1,6 @@
 -- The laws of parts and of scans. A scan's loop keeps `past p i e l ≡ past p at e l`: what is left decides.
 -- Assumes nothing.
-use Prim.Native.Nat.{ℕ, zero, suc, _+_, _-_, _≤_, _<_}
+use Prim.Native.Nat.{ℕ, zero, suc, _+_, _-_, _≤_, _<_, min}
 use native.Mathlib.Nat.{add-zero}
 use native.Mathlib.Numerals.{add-one}
 use native.Mathlib.Omega.{arith}
@@ -92,6 +92,19 @@ module _ (p : ℕ → Bool) where
   unfolding past
   past-again i e l = rw (← (drop-part i e (run p (part i e l)) l)) (run-again (part i e l))
 
+  -- a scan of the first n bytes
+  pub run-take : (n : ℕ) (l : List ℕ) → run p (take n l) ≡ min n (run p l)
+  unfolding run
+  run-take zero l = omega arith
+  run-take (suc n) [] = omega arith
+  run-take (suc n) (b ∷ rest) = go (p b) (run-take n rest)
+    where
+      go :
+          (t : Bool) → run p (take n rest) ≡ min n (run p rest)
+          → cond t (suc (run p (take n rest))) 0 ≡ min (suc n) (cond t (suc (run p rest)) 0)
+      go true ih = omega (arith, ih)
+      go false ih = omega arith
+
   pub past-end : (i e : ℕ) (l : List ℕ) → e ≤ i → past p i e l ≡ i
   unfolding past run
   past-end i e l h = rw part-nil (add-zero i)
@@ -105,6 +118,25 @@ module _ (p : ℕ → Bool) where
       → past p (i + 1) e l ≡ past p i e l
   unfolding past run
   past-step i e l h g b = rw (part-cons i e l h g, b) (omega arith)
+
+-- a scan goes on from where a stricter one stopped
+module _ (p q : ℕ → Bool) (h : (b : ℕ) → q b ≡ true → p b ≡ true) where
+  run-through : (l : List ℕ) → run p l ≡ run q l + run p (drop (run q l) l)
+  unfolding run
+  run-through [] = refl
+  run-through (b ∷ rest) = go (q b) refl (run-through rest)
+    where
+      go :
+          (t : Bool) → q b ≡ t → run p rest ≡ run q rest + run p (drop (run q rest) rest)
+          → run p (b ∷ rest) ≡ run q (b ∷ rest) + run p (drop (run q (b ∷ rest)) (b ∷ rest))
+      go true e ih = rw (run-yes p b rest (h b e), run-yes q b rest e) (omega (arith, ih))
+      go false e ih = rw (run-no q b rest e) (omega arith)
+
+  pub past-through : (i e : ℕ) (l : List ℕ) → past p (past q i e l) e l ≡ past p i e l
+  unfolding past
+  past-through i e l =
+      let k = run q (part i e l) in
+      omega (arith, rw (drop-part i e k l) at (run-through (part i e l)))
 
 -- what the loop of a scan keeps at the position i that it has come to
 pub record Scanned (p : ℕ → Bool) (at e : ℕ) (l : List ℕ) (i : ℕ) : Type 0 where

@@ -1,9 +1,11 @@
 -- What reading a field answers.
 use Prim.Native.Nat.{ℕ, _<_}
+use mathlib.Core.Bool.{cond}
 use mathlib.Core.List.{List}
 use mathlib.Core.Option.{Option, none, some}
 use mathlib.Core.Path.{_≡_}
 use lib.ListN.{getD}
+use lib.Dec.{leb}
 use Rattle.text.specs.declared.numbers.Number.{Number}
 use Rattle.text.specs.declared.numbers.Number.the-variants.{Value, NotANumber}
 use Rattle.text.specs.declared.names.Name.{Name}
@@ -13,6 +15,10 @@ use Rattle.text.specs.declared.names.Name.the-variants.{Packed, NotAName
 abbrev pub numberIn : Number → Option ℕ
 numberIn (Value v) = some v
 numberIn NotANumber = none
+
+-- a value as a number, where it is at most 177777
+abbrev pub small : ℕ → Option ℕ
+small v = cond (leb v 0o177777) (some v) none
 
 -- the packed name that an answer holds
 abbrev pub nameIn : Name → Option ℕ

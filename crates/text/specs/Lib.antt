@@ -2,3 +2,4 @@ pub mod Scan
 pub mod LineEnds
 pub mod FieldBounds
 pub mod Answers
+pub mod Digits

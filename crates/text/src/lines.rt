@@ -1,48 +1,21 @@
 // The lines of a file.
 use crate::scan::find_byte;
 ghost use mathlib.Core.Path.{_≡_};
-ghost use Prim.Native.Nat.{_<_};
+ghost use Prim.Native.Nat.{_<_, _≤_, min};
 ghost use lib.ListN.{length};
-ghost use Rattle.rules.specs.Text.{legalFront};
-ghost use Rattle.text.specs.Scan.{part, InFile, Found};
-ghost use Rattle.text.specs.LineEnds.{legalEnd, NextLine};
+ghost use Rattle.text.specs.Scan.{InFile, Found};
+ghost use Rattle.text.specs.LineEnds.{legalEnd, frontOf, NextLine};
 
 const LF: u8 = 10;
 
 const CR: u8 = 13;
 
-// Where a line stops, its end left out, and where the next one starts.
+// Where a line stops, its end left out, and where the next one starts; and how many legal bytes stand at the line's front, at
+// most 80.
 pub struct LineSpan {
     pub stop: usize,
     pub next: usize,
-}
-
-// The line that starts at `at`. A CR is dropped only just before an LF.
-pub fn next_line(file: &[u8], at: usize) -> LineSpan
-    requires { ⌜ at < length (now file) ⌝ }
-    ensures { λ r. ⌜ NextLine at (now (file .entry)) r ⌝ }
-{
-    let lf = find_byte(file, at, file.len(), LF);
-    if lf == file.len() {
-        return LineSpan { stop: lf, next: lf };
-    }
-    if lf == at {
-        return LineSpan {
-            stop: lf,
-            next: lf + 1,
-        };
-    }
-    let last = lf - 1;
-    if file[last] == CR {
-        return LineSpan {
-            stop: last,
-            next: lf + 1,
-        };
-    }
-    LineSpan {
-        stop: lf,
-        next: lf + 1,
-    }
+    pub front: usize,
 }
 
 // The first position from `at` on whose byte is illegal, or `end`.
@@ -64,13 +37,59 @@ fn legal_end(file: &[u8], at: usize, end: usize) -> usize
     i
 }
 
-// How many legal bytes stand at the front of the line, at most 80.
-pub fn legal_front(file: &[u8], at: usize, stop: usize) -> usize
-    requires { ⌜ InFile at stop (now file) ⌝ }
-    ensures { λ r. ⌜ r ≡ legalFront 80 (part at stop (now (file .entry))) ⌝ }
+fn at_most_80(n: usize) -> usize
+    ensures { λ r. ⌜ r ≡ min 80 n ⌝ }
 {
-    if 80 < stop - at {
-        return legal_end(file, at, at + 80) - at;
+    if 80 < n {
+        return 80;
     }
-    legal_end(file, at, stop) - at
+    n
+}
+
+// How many legal bytes stand at the front of the line, at most 80, where the next illegal byte of the file is at `illegal`.
+fn legal_front(at: usize, illegal: usize, stop: usize) -> usize
+    requires { ⌜ (at ≤ illegal) × (at ≤ stop) ⌝ }
+    ensures { λ r. ⌜ r ≡ frontOf at illegal stop ⌝ }
+{
+    if illegal < stop {
+        return at_most_80(illegal - at);
+    }
+    at_most_80(stop - at)
+}
+
+// The line that starts at `at`. A CR is dropped only just before an LF. An LF is an illegal byte itself, so one pass finds both.
+pub fn next_line(file: &[u8], at: usize) -> LineSpan
+    requires { ⌜ at < length (now file) ⌝ }
+    ensures { λ r. ⌜ NextLine at (now (file .entry)) r ⌝ }
+{
+    let end = file.len();
+    let illegal = legal_end(file, at, end);
+    let lf = find_byte(file, illegal, end, LF);
+    if lf == end {
+        return LineSpan {
+            stop: lf,
+            next: lf,
+            front: legal_front(at, illegal, lf),
+        };
+    }
+    if lf == at {
+        return LineSpan {
+            stop: lf,
+            next: lf + 1,
+            front: 0,
+        };
+    }
+    let last = lf - 1;
+    if file[last] == CR {
+        return LineSpan {
+            stop: last,
+            next: lf + 1,
+            front: legal_front(at, illegal, last),
+        };
+    }
+    LineSpan {
+        stop: lf,
+        next: lf + 1,
+        front: legal_front(at, illegal, lf),
+    }
 }

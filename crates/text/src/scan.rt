@@ -1,4 +1,5 @@
 // Scanning over the file.
+ghost use mathlib.Core.Path.{_≡_};
 ghost use Rattle.text.specs.Scan.{InFile, Found, isNot, past};
 
 // The first position from `at` on with that byte, or `stop`.
@@ -14,4 +15,11 @@ pub fn find_byte(file: &[u8], at: usize, stop: usize, byte: u8) -> usize
         i += 1;
     }
     i
+}
+
+// A byte of a table, as a position.
+pub fn position(byte: u8) -> usize
+    ensures { λ r. ⌜ r ≡ byte ⌝ }
+{
+    byte as usize
 }

@@ -6,21 +6,23 @@ use mathlib.Core.Bool.{Bool, true, false, cond, _&&_, true≢false}
 use mathlib.Core.List.{List, [], _∷_}
 use mathlib.Core.Logic.{_≢_}
 use mathlib.Core.Path.{_≡_, refl, sym, ap, ap₂, subst, _∙_}
-use lib.ListN.{length}
+use lib.ListN.{length, length-map}
 use lib.Dec.{eqb}
 use borrow.Author.Tests.{eq-eqb, ne-eqb}
 use Rattle.rules.specs.Reading.{Module, Item, free, section}
-use Rattle.rules.specs.Placing.{externals, twice}
-use Rattle.rules.specs.Load.{Walk, refusedAt, accepted, place, searched, sectionNames, testSection, Progress, progress, walkItem, walkItems}
+use Rattle.rules.specs.Placing.{entries, externals, entryName, twice}
+use Rattle.rules.specs.Load.{Walk, refusedAt, accepted, place, searched, entryNames, sectionNames, testSection, Progress, progress, walkItem, walkItems}
 use Rattle.rules.proofs.TestLaws.{Every}
 use Rattle.rules.proofs.ReadingLaws.{ModuleSound, ItemSound}
 use Rattle.tables.specs.Tables.{kindIn, freeRow, sectionRow, lineIn, startIn, endIn, moduleIn, modulesIn, sectionIn, itemsFromRow, itemsIn}
 use Rattle.state.specs.Good.{Good}
+use Rattle.entries.specs.Index.{size, Tested}
 use Rattle.library.specs.Searching.{Agrees, Section, PlacedRow, Sought}
+use Rattle.library.proofs.SeekLaws.{length-modules}
 use Rattle.library.specs.declared.taking.Told.{Told}
 use Rattle.library.specs.declared.rounds.Outcome.{Outcome}
 use Rattle.walking.specs.declared.Walked.{Walked}
-use Rattle.walking.specs.Walking.{rowStep, RowSound, TestedSection, Goes, Went, Stands}
+use Rattle.walking.specs.Walking.{rowStep, RowSound, TestedSection, Indexable, Known, Goes, Went, Stands}
 
 -- ---- the test of a section
 
@@ -52,22 +54,28 @@ module _ (at : ℕ) (ms : List Module) (fault line : ℕ) where
             rw (on, t) a;
       }
 
+-- what the index knows after the test
+module _ {parts rows : List ℕ} {first n : ℕ} {index : List ℕ} where
+  pub known-refused : {fault : ℕ} → length index ≡ size → fault ≢ 0 → Known parts rows first n fault index
+  known-refused h z = record { long = h; owns = λ e. absurd (z e) }
+
+  pub known-tested : {fault : ℕ} {r : Bool} → Tested parts rows first n r index → r ≡ false → Known parts rows first n fault index
+  known-tested t f = record { long = t .long; owns = λ _. t .owns f }
+
 -- ---- a section's rows
 
-modules-length : (parts rows : List ℕ) (i n : ℕ) → length (modulesIn parts rows i n) ≡ n
+module-sound : (parts rows : List ℕ) (i n : ℕ) → Every ModuleSound (modulesIn parts rows i n) →
+    (k : ℕ) → k < n → ModuleSound (moduleIn parts rows (i + k))
 unfolding modulesIn
-modules-length parts rows i zero = refl
-modules-length parts rows i (suc n) = ap suc (modules-length parts rows (i + 1) n)
-
-modules-few : (parts rows : List ℕ) (i n : ℕ) → Every ModuleSound (modulesIn parts rows i n) →
-    (k : ℕ) → k < n → length (externals (moduleIn parts rows (i + k))) ≤ 64
-unfolding modulesIn
-modules-few parts rows i zero e k l = absurd (omega arith)
-modules-few parts rows i (suc n) e zero l =
-    subst (λ j. length (externals (moduleIn parts rows j)) ≤ 64) (sym (add-zero i)) (e .0 .few-externals)
-modules-few parts rows i (suc n) e (suc k) l =
+module-sound parts rows i zero e k l = absurd (omega arith)
+module-sound parts rows i (suc n) e zero l = subst (λ j. ModuleSound (moduleIn parts rows j)) (sym (add-zero i)) (e .0)
+module-sound parts rows i (suc n) e (suc k) l =
     let next : i + suc k ≡ i + 1 + k = omega arith in
-    subst (λ j. length (externals (moduleIn parts rows j)) ≤ 64) (sym next) (modules-few parts rows (i + 1) n (e .1) k (omega arith))
+    subst (λ j. ModuleSound (moduleIn parts rows j)) (sym next) (module-sound parts rows (i + 1) n (e .1) k (omega arith))
+
+few-names : (m : Module) → ModuleSound m → length (entryNames m) ≤ 64
+unfolding entryNames
+few-names m s = omega (arith, length-map (entries m) entryName, s .few-entries)
 
 module _ (parts rows : List ℕ) (row first last : ℕ) (start : first ≡ startIn rows row) (top : last ≡ max first (endIn rows row)) where
   -- the rows of the section, as many as there are
@@ -83,14 +91,23 @@ module _ (parts rows : List ℕ) (row first last : ℕ) (start : first ≡ start
     members = subst (λ ms. Every ModuleSound ms × (length ms ≤ 256)) (sym section-is) s
 
     pub section-small : last - first ≤ 256
-    section-small = omega (arith, modules-length parts rows first (last - first), members .1)
+    section-small = omega (arith, length-modules parts rows first (last - first), members .1)
 
     pub section-fits : Section parts rows first (last - first)
     section-fits =
         record {
           low = omega (arith, start);
           short = section-small;
-          few = modules-few parts rows first (last - first) (members .0);
+          few = λ i l. module-sound parts rows first (last - first) (members .0) i l .few-externals;
+        }
+
+    pub section-indexable : length parts ≤ 131072 → {index : List ℕ} → length index ≡ size →
+        Indexable parts rows first (last - first) index
+    section-indexable p h =
+        record {
+          parts-few = p;
+          few = λ i l. few-names _ (module-sound parts rows first (last - first) (members .0) i l);
+          long = h;
         }
 
 -- ---- an item

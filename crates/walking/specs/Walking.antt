@@ -1,14 +1,16 @@
 -- How the walk over the rows says what it did.
-use Prim.Native.Nat.{ℕ, _+_, _-_, _≤_}
+use Prim.Native.Nat.{ℕ, _+_, _<_, _≤_}
 use mathlib.Core.Bool.{Bool, cond}
 use mathlib.Core.List.{List}
 use mathlib.Core.Path.{_≡_}
+use lib.ListN.{length}
 use lib.Dec.{eqb}
 use Rattle.rules.specs.Reading.{Module, Item, free, section}
 use Rattle.rules.proofs.ReadingLaws.{ModuleSound, ItemSound}
-use Rattle.rules.specs.Load.{Walk, Progress, walkItem, walkItems, testSection}
+use Rattle.rules.specs.Load.{Walk, Progress, walkItem, walkItems, testSection, entryNames}
 use Rattle.tables.specs.Tables.{kindIn, freeRow, sectionRow, moduleIn, sectionIn}
 use Rattle.state.specs.Good.{Good}
+use Rattle.entries.specs.Index.{size, Owns}
 use Rattle.library.specs.Searching.{Agrees}
 use Rattle.library.specs.declared.taking.Told.{Told}
 use Rattle.walking.specs.declared.Walked.{Walked}
@@ -22,6 +24,17 @@ rowStep parts rows i p =
 -- the test of a section, by any walk, whatever its cells
 pub record TestedSection (line : ℕ) (ms : List Module) (fault at : ℕ) (r : Told) : Type 0 where
   pub does : (w : Walk) (cells : List ℕ) → Agrees w fault at cells → Agrees (testSection line ms w) (r .fault) (r .line) cells
+
+-- n modules that the index of their entries has room for
+pub record Indexable (parts rows : List ℕ) (first n : ℕ) (index : List ℕ) : Type 0 where
+  pub parts-few : length parts ≤ 131072
+  pub few : (i : ℕ) → i < n → length (entryNames (moduleIn parts rows (first + i))) ≤ 64
+  pub long : length index ≡ size
+
+-- in a walk that goes on, the index has the entries of the n modules
+pub record Known (parts rows : List ℕ) (first n fault : ℕ) (index : List ℕ) : Type 0 where
+  pub long : length index ≡ size
+  pub owns : fault ≡ 0 → Owns parts rows first n index
 
 -- the walk's numbers and state, and its rounds
 pub record Goes (p : Progress) (fault line rounds : ℕ) (cells : List ℕ) : Type 0 where

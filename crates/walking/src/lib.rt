@@ -1,12 +1,13 @@
 // The walk over what a file holds: the rows in order, free modules placed, sections tested and searched.
+use entries::repeats;
 use library::modules::row_line;
 use library::rounds::search;
 use library::taking::Told;
 use library::taking::place_row;
 use parts::heads::larger;
-use repeats::repeats;
 use tables::cell;
 ghost use Prim.Native.Nat.{_+_, _-_, _*_, _≤_, _<_};
+ghost use mathlib.Core.Path.{_≡_};
 ghost use lib.ListN.{length};
 ghost use Rattle.rules.specs.Reading.{free};
 ghost use Rattle.rules.specs.Load.{walkItem, walkItems};
@@ -14,7 +15,9 @@ ghost use Rattle.rules.proofs.TestLaws.{Every};
 ghost use Rattle.rules.proofs.ReadingLaws.{ModuleSound, ItemSound};
 ghost use Rattle.tables.specs.Tables.{lineIn, moduleIn, modulesIn, sectionIn, itemsFromRow, itemsIn};
 ghost use Rattle.state.specs.Good.{Good};
-ghost use Rattle.walking.specs.Walking.{rowStep, RowSound, TestedSection, Went};
+ghost use Rattle.entries.specs.Index.{size};
+ghost use Rattle.library.specs.Searching.{Section};
+ghost use Rattle.walking.specs.Walking.{rowStep, RowSound, TestedSection, Indexable, Known, Went};
 
 // A refusal's number and line, 0 where there is none, and the rounds of the searches so far.
 pub struct Walked {
@@ -23,24 +26,26 @@ pub struct Walked {
     pub rounds: usize,
 }
 
-// 13 at the section's LSB line, where a name is an entry twice in the rows from `first` to the one before `last`.
+// 13 at the section's LSB line, where a name is an entry twice in the n modules from row `first` on. Else the index has them.
 fn test_section(
     parts: &[u64],
     rows: &[u64],
     row: usize,
     first: usize,
-    last: usize,
+    n: usize,
     fault: u64,
     line: u64,
+    index: &mut [u64],
 ) -> Told
-    requires { ⌜ (first ≤ last) × (last ≤ 131072) ⌝ }
     requires { ⌜ row < 131072 ⌝ }
-    ensures { λ r. ⌜ TestedSection (lineIn (now (rows .entry)) row) (modulesIn (now (parts .entry)) (now (rows .entry)) first (last - first)) fault line r ⌝ }
+    requires { ⌜ Section (now parts) (now rows) first n ⌝ }
+    requires { ⌜ Indexable (now parts) (now rows) first n (now index) ⌝ }
+    ensures { λ r. ⌜ TestedSection (lineIn (now (rows .entry)) row) (modulesIn (now (parts .entry)) (now (rows .entry)) first n) fault line r × Known (now (parts .entry)) (now (rows .entry)) first n (r .fault) (now (index .exit)) ⌝ }
 {
     if fault != 0 {
         return Told { fault, line };
     }
-    if repeats(parts, rows, first, last) {
+    if repeats(parts, rows, first, n, index) {
         return Told {
             fault: 13,
             line: row_line(rows, row),
@@ -57,18 +62,21 @@ fn walk_section(
     fault: u64,
     line: u64,
     rounds: usize,
+    index: &mut [u64],
     state: &mut [u64],
 ) -> Walked
     requires { ⌜ (row < 131072) × (rounds ≤ 100000000) ⌝ }
+    requires { ⌜ (length (now parts) ≤ 131072) × (length (now index) ≡ size) ⌝ }
     requires { ⌜ ItemSound (sectionIn (now parts) (now rows) row) ⌝ }
     requires { ⌜ Good (now state) ⌝ }
-    ensures { λ r. ⌜ Went (λ p. walkItem p (sectionIn (now (parts .entry)) (now (rows .entry)) row)) 257 fault line rounds (now (state .entry)) r (now (state .exit)) ⌝ }
+    ensures { λ r. ⌜ Went (λ p. walkItem p (sectionIn (now (parts .entry)) (now (rows .entry)) row)) 257 fault line rounds (now (state .entry)) r (now (state .exit)) × (length (now (index .exit)) ≡ size) ⌝ }
 {
     let body = cell(rows, 2 * row + 1);
     let first = (body % 65536) as usize;
     let last = larger(first, (body / 65536) as usize);
-    let t = test_section(parts, rows, row, first, last, fault, line);
-    let o = search(parts, rows, first, last - first, t.fault, t.line, state);
+    let n = last - first;
+    let t = test_section(parts, rows, row, first, n, fault, line, index);
+    let o = search(parts, rows, first, n, t.fault, t.line, index, state);
     Walked {
         fault: o.fault,
         line: o.line,
@@ -107,19 +115,21 @@ fn walk_row(
     fault: u64,
     line: u64,
     rounds: usize,
+    index: &mut [u64],
     state: &mut [u64],
 ) -> Walked
     requires { ⌜ (row < 131072) × (rounds ≤ 100000000) ⌝ }
+    requires { ⌜ (length (now parts) ≤ 131072) × (length (now index) ≡ size) ⌝ }
     requires { ⌜ RowSound (now parts) (now rows) row ⌝ }
     requires { ⌜ Good (now state) ⌝ }
-    ensures { λ r. ⌜ Went (rowStep (now (parts .entry)) (now (rows .entry)) row) 257 fault line rounds (now (state .entry)) r (now (state .exit)) ⌝ }
+    ensures { λ r. ⌜ Went (rowStep (now (parts .entry)) (now (rows .entry)) row) 257 fault line rounds (now (state .entry)) r (now (state .exit)) × (length (now (index .exit)) ≡ size) ⌝ }
 {
     let kind = cell(rows, 2 * row) % 4;
     if kind == 1 {
         return walk_free(parts, rows, row, fault, line, rounds, state);
     }
     if kind == 3 {
-        return walk_section(parts, rows, row, fault, line, rounds, state);
+        return walk_section(parts, rows, row, fault, line, rounds, index, state);
     }
     Walked {
         fault,
@@ -130,17 +140,18 @@ fn walk_row(
 
 // The first n rows, in their order.
 pub fn walk(parts: &[u64], rows: &[u64], n: usize, state: &mut [u64]) -> Walked
-    requires { ⌜ n ≤ 131072 ⌝ }
+    requires { ⌜ (n ≤ 131072) × (length (now parts) ≤ 131072) ⌝ }
     requires { ⌜ Every ItemSound (itemsIn (now parts) (now rows) n) ⌝ }
     requires { ⌜ Good (now state) ⌝ }
     ensures { λ r. ⌜ Went (λ p. walkItems p (itemsIn (now (parts .entry)) (now (rows .entry)) n)) 33685504 0 0 0 (now (state .entry)) r (now (state .exit)) ⌝ }
 {
+    let mut index = [0u64; 18433];
     let mut fault = 0;
     let mut line = 0;
     let mut rounds = 0;
     let mut i = 0;
     while i < n {
-        let w = walk_row(parts, rows, i, fault, line, rounds, state);
+        let w = walk_row(parts, rows, i, fault, line, rounds, &mut index, state);
         fault = w.fault;
         line = w.line;
         rounds = w.rounds;

@@ -25,10 +25,10 @@ stepped :
     (c .before .before .before .before .before .before .before .before .before .before .args .rows .now)
     (c .before .before .before .before .loop .inv .here)
     (c .before .before .before .before .loop .line)
-    (c .before .before .next-line .result .next)
+    (c .before .before .line-from .result .next)
     s
 stepped c e =
-    turn _ _ _ (c .before .before .before .before .loop .inv) (c .before .before .next-line .ensures)
+    turn _ _ _ (c .before .before .before .before .loop .inv) (c .before .before .line-from .ensures)
     (c .before .line-answer .ensures) (sym e ∙ c .step-of .ensures)
 
 at-start-requires : tie.Need-at-start-requires Inv-loop μ-loop
@@ -42,8 +42,8 @@ loop-holds c =
     start _ _ _ (c .before .before .before .before .before .pre)
     (c .before .at-start .ensures) (c .nothing .ensures)
 
-next-line-requires : tie.Need-next-line-requires Inv-loop μ-loop
-next-line-requires c κs = search needs
+line-from-requires : tie.Need-line-from-requires Inv-loop μ-loop
+line-from-requires c κs = search needs
 
 line-answer-requires : tie.Need-line-answer-requires Inv-loop μ-loop
 line-answer-requires c κs = search needs
@@ -168,7 +168,7 @@ read-file-spec =
     at-start-requires
     nothing-requires
     loop-holds
-    next-line-requires
+    line-from-requires
     line-answer-requires
     step-of-requires
     add-line

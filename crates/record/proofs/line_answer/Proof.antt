@@ -5,9 +5,6 @@ use borrow.Author.Needs.{needs}
 use Rattle.record.proofs.line_answer.Statement.{statement}
 use Rattle.record.proofs.line_answer.Tie as tie
 
-legal-front-requires : tie.Need-legal-front-requires
-legal-front-requires c κs = search needs
-
 sub-test-bytes : tie.Need-sub-test-bytes
 sub-test-bytes c = search needs
 
@@ -18,9 +15,11 @@ test-bytes-requires : tie.Need-test-bytes-requires
 test-bytes-requires c κs = search needs
 
 returns : tie.Need-returns
-returns c = line-whole _ (c .before .before .before .before .pre) (c .before .before .legal-front .ensures) (c .before .fields-say .ensures) (c .test-bytes .ensures)
+returns c =
+    let p = c .before .before .before .pre in
+    line-whole _ (p .0) (p .1) (c .before .fields-say .ensures) (c .test-bytes .ensures)
 
 pub line-answer-spec : {M : Type 1} → statement M
 line-answer-spec =
     tie.close
-    (tie.spec legal-front-requires sub-test-bytes fields-say-requires test-bytes-requires returns)
+    (tie.spec sub-test-bytes fields-say-requires test-bytes-requires returns)

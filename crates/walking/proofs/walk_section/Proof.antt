@@ -2,16 +2,10 @@ use Prim.Native.Nat.{_/_, _%_, max}
 use native.Mathlib.Omega.{arith}
 use mathlib.Core.Path.{sym, ap, _∙_}
 use Rattle.tables.specs.Tables.{endIn}
-use Rattle.walking.proofs.WalkingLaws.{section-is, section-small, section-fits, went-section}
+use Rattle.walking.proofs.WalkingLaws.{section-is, section-fits, section-indexable, went-section}
 use borrow.Author.Needs.{needs}
 use Rattle.walking.proofs.walk_section.Statement.{statement}
 use Rattle.walking.proofs.walk_section.Tie as tie
-use Rattle.walking.proofs.walk_section.Reads as reads
-use Rattle.walking.proofs.walk_section.Lts as lts
-use Rattle.library.proofs.rounds.search.Reads as search-reads
-use Rattle.parts.proofs.heads.larger.Reads as larger-reads
-use Rattle.tables.proofs.cell.Reads as cell-reads
-use Rattle.walking.proofs.test_section.Reads as test-section-reads
 
 mul-cell : tie.Need-mul-cell
 mul-cell c = search needs
@@ -25,23 +19,26 @@ cell-requires c κs = search needs
 larger-requires : tie.Need-larger-requires
 larger-requires c κs = search needs
 
-test-section-requires : tie.Need-test-section-requires
-test-section-requires c κs = ((omega (arith, c .larger .ensures), omega (arith, section-small (c .before .before .before .before .before .args .parts .now) (c .before .before .before .before .before .args .rows .now) (c .before .before .before .before .before .args .row) _ (c .larger .result) (ap (λ b. b % 65536) (c .before .cell .ensures)) (c .larger .ensures ∙ ap (λ b. max (b % 65536) (b / 65536)) (c .before .cell .ensures) ∙ sym (ap (λ b. max b (endIn (c .before .before .before .before .before .args .rows .now) (c .before .before .before .before .before .args .row))) (ap (λ b. b % 65536) (c .before .cell .ensures)))) (c .before .before .before .before .before .pre .1 .0))), c .before .before .before .before .before .pre .0 .0)
+sub-n : tie.Need-sub-n
+sub-n c = search needs
 
-sub-search : tie.Need-sub-search
-sub-search c = search needs
+test-section-requires : tie.Need-test-section-requires
+test-section-requires c κs = let a = c .before .before .before .before .before .before .before .args in let p = c .before .before .before .before .before .before .before .pre in (p .0 .0, (section-fits (a .parts .now) (a .rows .now) (a .row) _ (c .before .larger .result) (ap (λ b. b % 65536) (c .before .before .cell .ensures)) (c .before .larger .ensures ∙ ap (λ b. max (b % 65536) (b / 65536)) (c .before .before .cell .ensures) ∙ sym (ap (λ b. max b (endIn (a .rows .now) (a .row))) (ap (λ b. b % 65536) (c .before .before .cell .ensures)))) (p .1 .1 .0), section-indexable (a .parts .now) (a .rows .now) (a .row) _ (c .before .larger .result) (ap (λ b. b % 65536) (c .before .before .cell .ensures)) (c .before .larger .ensures ∙ ap (λ b. max (b % 65536) (b / 65536)) (c .before .before .cell .ensures) ∙ sym (ap (λ b. max b (endIn (a .rows .now) (a .row))) (ap (λ b. b % 65536) (c .before .before .cell .ensures)))) (p .1 .1 .0) (p .1 .0 .0) (p .1 .0 .1)))
 
 search-requires : tie.Need-search-requires
-search-requires c κs = (section-fits (c .before .before .before .before .before .before .before .args .parts .now) (c .before .before .before .before .before .before .before .args .rows .now) (c .before .before .before .before .before .before .before .args .row) _ (c .before .before .larger .result) (ap (λ b. b % 65536) (c .before .before .before .cell .ensures)) (c .before .before .larger .ensures ∙ ap (λ b. max (b % 65536) (b / 65536)) (c .before .before .before .cell .ensures) ∙ sym (ap (λ b. max b (endIn (c .before .before .before .before .before .before .before .args .rows .now) (c .before .before .before .before .before .before .before .args .row))) (ap (λ b. b % 65536) (c .before .before .before .cell .ensures)))) (c .before .before .before .before .before .before .before .pre .1 .0), c .before .before .before .before .before .before .before .pre .1 .1)
+search-requires c κs = let a = c .before .before .before .before .before .before .before .before .before .before .before .before .args in let p = c .before .before .before .before .before .before .before .before .before .before .before .before .pre in (section-fits (a .parts .now) (a .rows .now) (a .row) _ (c .before .before .before .before .before .before .larger .result) (ap (λ b. b % 65536) (c .before .before .before .before .before .before .before .cell .ensures)) (c .before .before .before .before .before .before .larger .ensures ∙ ap (λ b. max (b % 65536) (b / 65536)) (c .before .before .before .before .before .before .before .cell .ensures) ∙ sym (ap (λ b. max b (endIn (a .rows .now) (a .row))) (ap (λ b. b % 65536) (c .before .before .before .before .before .before .before .cell .ensures)))) (p .1 .1 .0), (c .before .before .before .before .test-section .ensures .1 .owns, p .1 .1 .1))
 
-add-t13 : tie.Need-add-t13
-add-t13 c = search needs
+add-t16 : tie.Need-add-t16
+add-t16 c = omega (arith, c .before .before .before .search .ensures .most, c .before .before .before .before .before .before .before .before .before .before .before .before .before .before .before .before .pre .0 .1)
 
 same-length : tie.Need-same-length
-same-length c = search needs
+same-length c = c .before .before .before .before .before .before .before .before .test-section .ensures .1 .long ∙ sym (c .before .before .before .before .before .before .before .before .before .before .before .before .before .before .before .before .pre .1 .0 .1)
+
+same-length-2 : tie.Need-same-length-2
+same-length-2 c = c .before .before .before .search .ensures .good .long ∙ sym (c .before .before .before .before .before .before .before .before .before .before .before .before .before .before .before .before .pre .1 .1 .1 .long)
 
 returns : tie.Need-returns
-returns c = went-section (c .before .before .before .before .before .before .before .before .before .before .before .args .parts .now) (c .before .before .before .before .before .before .before .before .before .before .before .args .rows .now) (c .before .before .before .before .before .before .before .before .before .before .before .args .row) (c .before .before .before .before .before .before .before .before .before .before .before .args .fault) (c .before .before .before .before .before .before .before .before .before .before .before .args .line) (c .before .before .before .before .before .before .before .before .before .before .before .args .rounds) _ (c .before .before .before .before .before .test-section .result) (c .before .before .before .search .result) _ _ (section-is (c .before .before .before .before .before .before .before .before .before .before .before .args .parts .now) (c .before .before .before .before .before .before .before .before .before .before .before .args .rows .now) (c .before .before .before .before .before .before .before .before .before .before .before .args .row) _ (c .before .before .before .before .before .before .larger .result) (ap (λ b. b % 65536) (c .before .before .before .before .before .before .before .cell .ensures)) (c .before .before .before .before .before .before .larger .ensures ∙ ap (λ b. max (b % 65536) (b / 65536)) (c .before .before .before .before .before .before .before .cell .ensures) ∙ sym (ap (λ b. max b (endIn (c .before .before .before .before .before .before .before .before .before .before .before .args .rows .now) (c .before .before .before .before .before .before .before .before .before .before .before .args .row))) (ap (λ b. b % 65536) (c .before .before .before .before .before .before .before .cell .ensures))))) (c .before .before .before .before .before .test-section .ensures) (c .before .before .before .search .ensures)
+returns c = let a = c .before .before .before .before .before .before .before .before .before .before .before .before .before .before .before .before .args in (went-section (a .parts .now) (a .rows .now) (a .row) (a .fault) (a .line) (a .rounds) _ (c .before .before .before .before .before .before .before .before .test-section .result) (c .before .before .before .search .result) _ _ (section-is (a .parts .now) (a .rows .now) (a .row) _ (c .before .before .before .before .before .before .before .before .before .before .larger .result) (ap (λ b. b % 65536) (c .before .before .before .before .before .before .before .before .before .before .before .cell .ensures)) (c .before .before .before .before .before .before .before .before .before .before .larger .ensures ∙ ap (λ b. max (b % 65536) (b / 65536)) (c .before .before .before .before .before .before .before .before .before .before .before .cell .ensures) ∙ sym (ap (λ b. max b (endIn (a .rows .now) (a .row))) (ap (λ b. b % 65536) (c .before .before .before .before .before .before .before .before .before .before .before .cell .ensures))))) (c .before .before .before .before .before .before .before .before .test-section .ensures .0) (c .before .before .before .search .ensures), c .before .before .before .before .before .before .before .before .test-section .ensures .1 .long)
 
 pub walk-section-spec : {M : Type 1} → statement M
 walk-section-spec =
@@ -51,9 +48,10 @@ walk-section-spec =
     add-cell
     cell-requires
     larger-requires
+    sub-n
     test-section-requires
-    sub-search
     search-requires
-    add-t13
+    add-t16
     same-length
+    same-length-2
     returns)

@@ -1,7 +1,7 @@
--- `readings::build::put` is safe and ends: the measure is what is left of the text. Assumes nothing.
-use Prim.Native.Nat.{_≤_, _-_}
-use borrow.Author.Needs.{needs}
+-- `readings::build::put` is safe and ends: the measure is what is left of the text.
+use Prim.Native.Nat.{_-_, _≤_}
 use lib.ListN.{length}
+use borrow.Author.Needs.{needs}
 use Rattle.readings.proofs.build.put.Statement.{statement}
 use Rattle.readings.proofs.build.put.Tie as tie
 

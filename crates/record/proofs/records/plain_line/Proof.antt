@@ -29,28 +29,24 @@ bad-requires : tie.Need-bad-requires Inv-loop μ-loop
 bad-requires c κs = search needs
 
 returns : tie.Need-returns Inv-loop μ-loop
-returns c = quarters-few (c .before .before .before .before .loop .inv) (search needs) (c .before .before .field-start .ensures .is) (c .before .if1 .taken) (c .bad .ensures)
+returns c =
+    quarters-few (c .before .before .before .before .loop .inv) (search needs) (c .before .before .field-start .ensures .is)
+    (c .before .if1 .taken) (c .bad .ensures)
 
-next-field-requires : tie.Need-next-field-requires Inv-loop μ-loop
-next-field-requires c κs = search needs
+field-number-requires : tie.Need-field-number-requires Inv-loop μ-loop
+field-number-requires c κs = search needs
 
-read-number-requires : tie.Need-read-number-requires Inv-loop μ-loop
-read-number-requires c κs = search needs
-
-enum-known-quarter : tie.Need-enum-known-quarter Inv-loop μ-loop
-enum-known-quarter c = search needs
+enum-known-number : tie.Need-enum-known-number Inv-loop μ-loop
+enum-known-number c = search needs
 
 mul-text : tie.Need-mul-text Inv-loop μ-loop
-mul-text c = omega (arith, quarters-room (c .before .before .before .before .before .before .before .before .loop .inv) (search needs))
+mul-text c = omega (arith, quarters-room (c .before .before .before .before .before .before .before .loop .inv) (search needs))
 
 cast-text : tie.Need-cast-text Inv-loop μ-loop
 cast-text c = search needs
 
 add-text : tie.Need-add-text Inv-loop μ-loop
-add-text c = omega (arith, quarters-room (c .before .before .before .before .before .before .before .before .loop .inv) (search needs))
-
-add-i : tie.Need-add-i Inv-loop μ-loop
-add-i c = search needs
+add-text c = omega (arith, quarters-room (c .before .before .before .before .before .before .before .loop .inv) (search needs))
 
 add-k : tie.Need-add-k Inv-loop μ-loop
 add-k c = search needs
@@ -59,7 +55,11 @@ loop-less : tie.Need-loop-less Inv-loop μ-loop
 loop-less c = search needs
 
 loop-again : tie.Need-loop-again Inv-loop μ-loop
-loop-again c = quarters-step (c .before .before .before .before .before .before .before .before .loop .inv) (search needs) (c .before .before .before .before .before .before .field-start .ensures .is) (search needs) _ (c .before .before .before .before .next-field .ensures .bytes) (c .before .before .before .read-number .ensures) (c .before .quarter .given .1) (search needs)
+loop-again c =
+    let p = c .before .before .before in
+    quarters-step (p .before .before .before .before .loop .inv) (search needs)
+    (p .before .before .field-start .ensures .is) (search needs) (p .field-number .ensures) (c .before .number .given .1)
+    (search needs)
 
 enum-told : tie.Need-enum-told Inv-loop μ-loop
 enum-told c = search needs
@@ -74,7 +74,11 @@ bad-requires-2 : tie.Need-bad-requires-2 Inv-loop μ-loop
 bad-requires-2 c κs = search needs
 
 returns-2 : tie.Need-returns-2 Inv-loop μ-loop
-returns-2 c = quarters-wrong (c .before .before .before .before .before .before .before .before .loop .inv) (search needs) (c .before .before .before .before .before .before .field-start .ensures .is) (search needs) _ (c .before .before .before .before .next-field .ensures .bytes) (c .before .before .before .read-number .ensures) (c .before .enum-told .given .1) (c .bad2 .ensures)
+returns-2 c =
+    let p = c .before .before .before in
+    quarters-wrong (p .before .before .before .before .loop .inv) (search needs)
+    (p .before .before .field-start .ensures .is) (search needs) (p .field-number .ensures) (c .before .enum-told .given .1)
+    (c .bad2 .ensures)
 
 field-start-requires-2 : tie.Need-field-start-requires-2 Inv-loop μ-loop
 field-start-requires-2 c κs = search needs
@@ -89,10 +93,13 @@ bad-requires-3 : tie.Need-bad-requires-3 Inv-loop μ-loop
 bad-requires-3 c κs = search needs
 
 returns-3 : tie.Need-returns-3 Inv-loop μ-loop
-returns-3 c = quarters-many (c .before .before .before .before .loop .inv) (search needs) (c .before .before .field-start2 .ensures .is) (c .before .if2 .taken) (c .bad3 .ensures)
+returns-3 c =
+    quarters-many (c .before .before .before .before .loop .inv) (search needs) (c .before .before .field-start2 .ensures .is)
+    (c .before .if2 .taken) (c .bad3 .ensures)
 
 returns-4 : tie.Need-returns-4 Inv-loop μ-loop
-returns-4 c = quarters-end (c .before .before .before .loop .inv) (search needs) (c .before .field-start2 .ensures .is) (search needs)
+returns-4 c =
+    quarters-end (c .before .before .before .loop .inv) (search needs) (c .before .field-start2 .ensures .is) (search needs)
 
 pub plain-line-spec : {M : Type 1} → statement M
 plain-line-spec =
@@ -106,13 +113,11 @@ plain-line-spec =
     add-bad
     bad-requires
     returns
-    next-field-requires
-    read-number-requires
-    enum-known-quarter
+    field-number-requires
+    enum-known-number
     mul-text
     cast-text
     add-text
-    add-i
     add-k
     loop-less
     loop-again

@@ -1,46 +1,51 @@
 -- `record::shapes::read_as` meets its contract: the letters between two starts are the kinds of the shape, and what is read says it.
 -- Assumes nothing.
 use mathlib.Core.Path.{_∙_}
+use borrow.Author.Needs.{needs}
 use Rattle.rules.specs.Text.{bytes}
 use Rattle.text.specs.Scan.{part}
-use Rattle.record.proofs.ShapeLaws.{starts, letters, shaped, shape-says}
-use borrow.Author.Needs.{needs}
+use Rattle.record.proofs.ShapeLaws.{Shaped, starts, letters, shaped, shape-says}
 use Rattle.record.proofs.shapes.read_as.Statement.{statement}
 use Rattle.record.proofs.shapes.read_as.Tie as tie
+
+-- the kinds stand between the two positions
+between :
+    (c : tie.After-position2)
+    → Shaped (c .before .before .before .before .args .shape) (c .before .position .result) (c .position2 .result)
+unfolding starts
+between c =
+    shaped _ (c .before .before .before .before .pre .1) (c .before .position .ensures) (c .position2 .ensures)
 
 slice-aggregate-kinds : tie.Need-slice-aggregate-kinds
 slice-aggregate-kinds c = search needs
 
-mul-start : tie.Need-mul-start
-mul-start c = search needs
+array-read-position : tie.Need-array-read-position
+array-read-position c = search needs
 
-array-read-start : tie.Need-array-read-start
-array-read-start c = search needs
+position-requires : tie.Need-position-requires
+position-requires c κs = search needs
 
-add-end : tie.Need-add-end
-add-end c = search needs
+add-position : tie.Need-add-position
+add-position c = search needs
 
-mul-end : tie.Need-mul-end
-mul-end c = search needs
+array-read-position-2 : tie.Need-array-read-position-2
+array-read-position-2 c = search needs
 
-array-read-end : tie.Need-array-read-end
-array-read-end c = search needs
+position-requires-2 : tie.Need-position-requires-2
+position-requires-2 c κs = search needs
 
 sub-fit : tie.Need-sub-fit
-unfolding starts
-sub-fit c = shaped _ (c .before .before .pre .1) .order
+sub-fit c = between c .order
 
 part-fit-start : tie.Need-part-fit-start
-unfolding starts
-part-fit-start c = shaped _ (c .before .before .pre .1) .order
+part-fit-start c = between c .order
 
 part-fit-end : tie.Need-part-fit-end
-unfolding starts
-part-fit-end c = shaped _ (c .before .before .pre .1) .size
+part-fit-end c = between c .size
 
 fit-requires : tie.Need-fit-requires
-unfolding starts letters bytes part
-fit-requires c κs = (search needs, shaped _ (c .before .before .before .pre .1) .few)
+unfolding letters bytes part
+fit-requires c κs = (search needs, between (c .before) .few)
 
 element-copy-out-answer : tie.Need-element-copy-out-answer
 element-copy-out-answer c = search needs
@@ -52,19 +57,24 @@ said-requires : tie.Need-said-requires
 said-requires c κs = search needs
 
 returns : tie.Need-returns
-unfolding starts letters bytes part
-returns c = c .said .ensures ∙ shape-says _ _ _ _ _ (c .before .before .before .before .before .before .before .before .before .pre .1) (c .before .before .before .before .before .fit .ensures) (c .before .answer .ensures)
+unfolding letters bytes part
+returns c =
+    let p = c .before .before .before .before .before in
+    let q = p .before .before in
+    let kinds = part (q .before .position .result) (q .position2 .result) letters in
+    c .said .ensures
+    ∙ shape-says _ _ _ _ (p .fit .result) kinds (between q .is) (p .fit .ensures) (c .before .answer .ensures)
 
 pub read-as-spec : {M : Type 1} → statement M
 read-as-spec =
     tie.close
     (tie.spec
     slice-aggregate-kinds
-    mul-start
-    array-read-start
-    add-end
-    mul-end
-    array-read-end
+    array-read-position
+    position-requires
+    add-position
+    array-read-position-2
+    position-requires-2
     sub-fit
     part-fit-start
     part-fit-end

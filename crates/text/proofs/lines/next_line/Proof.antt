@@ -1,21 +1,37 @@
 -- `text::lines::next_line` meets its contract: each way out is one law on where a line stops.
 -- Assumes nothing.
 use borrow.Author.Needs.{needs}
-use Rattle.text.proofs.LineLaws.{stops-with-file, stops-empty, stops-CRLF, stops-LF}
+use mathlib.Core.Path.{_∙_}
+use Rattle.text.proofs.LineLaws.{front-is, LF-behind, stops-with-file, stops-empty, stops-CRLF, stops-LF}
 use Rattle.text.proofs.lines.next_line.Statement.{statement}
 use Rattle.text.proofs.lines.next_line.Tie as tie
+
+legal-end-requires : tie.Need-legal-end-requires
+legal-end-requires c κs = search needs
 
 find-byte-requires : tie.Need-find-byte-requires
 find-byte-requires c κs = search needs
 
-returns : tie.Need-returns
-returns c = stops-with-file _ _ _ (c .before .find-byte .ensures) (search needs) (c .if1 .taken)
+legal-front-requires : tie.Need-legal-front-requires
+legal-front-requires c κs = search needs
 
-add-t7 : tie.Need-add-t7
-add-t7 c = search needs
+returns : tie.Need-returns
+returns c =
+    let p = c .before .before in
+    let l = p .before .before .before .args .file .now in
+    stops-with-file _ _ l (LF-behind _ _ _ l (p .before .legal-end .ensures) (p .find-byte .ensures)) (search needs)
+    (c .before .if1 .taken)
+    (c .legal-front .ensures ∙ front-is _ _ _ l (search needs) (search needs) (p .before .legal-end .ensures))
+
+add-t9 : tie.Need-add-t9
+add-t9 c = search needs
 
 returns-2 : tie.Need-returns-2
-returns-2 c = stops-empty _ _ _ (c .before .before .find-byte .ensures) (search needs) (c .if2 .taken)
+returns-2 c =
+    let p = c .before .before in
+    let l = p .before .before .before .args .file .now in
+    stops-empty _ _ l (LF-behind _ _ _ l (p .before .legal-end .ensures) (p .find-byte .ensures)) (search needs)
+    (c .if2 .taken)
 
 sub-last : tie.Need-sub-last
 sub-last c = search needs
@@ -23,33 +39,49 @@ sub-last c = search needs
 shared-slice-read-if3 : tie.Need-shared-slice-read-if3
 shared-slice-read-if3 c = search needs
 
-add-t10 : tie.Need-add-t10
-add-t10 c = search needs
+add-t12 : tie.Need-add-t12
+add-t12 c = search needs
+
+legal-front-requires-2 : tie.Need-legal-front-requires-2
+legal-front-requires-2 c κs = search needs
 
 returns-3 : tie.Need-returns-3
 returns-3 c =
-    stops-CRLF _ _ _ (c .before .before .before .before .find-byte .ensures) (search needs)
-    (c .before .before .if2 .left) (c .if3 .taken)
+    let p = c .before .before .before .before .before in
+    let l = p .before .before .before .args .file .now in
+    stops-CRLF _ _ l (LF-behind _ _ _ l (p .before .legal-end .ensures) (p .find-byte .ensures)) (search needs)
+    (c .before .before .before .if2 .left) (c .before .if3 .taken)
+    (c .legal-front2 .ensures ∙ front-is _ _ _ l (search needs) (search needs) (p .before .legal-end .ensures))
 
-add-t5 : tie.Need-add-t5
-add-t5 c = search needs
+add-t14 : tie.Need-add-t14
+add-t14 c = search needs
+
+legal-front-requires-3 : tie.Need-legal-front-requires-3
+legal-front-requires-3 c κs = search needs
 
 returns-4 : tie.Need-returns-4
 returns-4 c =
-    stops-LF _ _ _ (c .before .before .before .before .find-byte .ensures) (search needs)
-    (c .before .before .if2 .left) (c .if3 .left)
+    let p = c .before .before .before .before .before in
+    let l = p .before .before .before .args .file .now in
+    stops-LF _ _ l (LF-behind _ _ _ l (p .before .legal-end .ensures) (p .find-byte .ensures)) (search needs)
+    (c .before .before .before .if2 .left) (c .before .if3 .left)
+    (c .legal-front3 .ensures ∙ front-is _ _ _ l (search needs) (search needs) (p .before .legal-end .ensures))
 
 pub next-line-spec : {M : Type 1} → statement M
 next-line-spec =
     tie.close
     (tie.spec
+    legal-end-requires
     find-byte-requires
+    legal-front-requires
     returns
-    add-t7
+    add-t9
     returns-2
     sub-last
     shared-slice-read-if3
-    add-t10
+    add-t12
+    legal-front-requires-2
     returns-3
-    add-t5
+    add-t14
+    legal-front-requires-3
     returns-4)
