@@ -4,6 +4,7 @@
 #
 #   scripts/profile.sh            the rows and their numbers
 #   scripts/profile.sh ROW ...    these rows
+#   scripts/profile.sh --crates   all rows in one Markdown table, by crate
 #
 # As built, nearly everything is inlined into the eight calls. So the LLVM module that `rt staticlib` hands to clang is compiled once
 # more, at the same -O3, with the functions of KEPT left out of line; that is about a tenth more instructions. The kit's clang is
@@ -50,13 +51,35 @@ ar rcs "$out/lib/liblinker.a" "$out/apart.o"
 bench "$out/lib" apart
 apart=$out/cargo-apart/release/bench
 
+# instructions of one call as built: two plays less one
 counted() { valgrind --tool=callgrind --callgrind-out-file=/dev/null "$built" --play "$@" 2>&1 | sed -n 's/.*Collected : //p'; }
+one_call() { echo $(($(counted "$1" "$2" 2) - $(counted "$1" "$2" 1))); }
+# instructions of one call by function: a number and a name to a line, the total first
+by_function() {
+    valgrind --tool=callgrind --callgrind-out-file="$out/row" --toggle-collect=lnk100_load --toggle-collect=lnk100_end \
+        --toggle-collect=lnk100_memory "$apart" --play "$1" verified > "$out/log" 2>&1
+    callgrind_annotate --threshold=100 "$out/row" 2> /dev/null | grep -E '^ *[0-9,]+ \(' \
+        | sed -E 's/ \[.*//; s/\?\?\?://; s,[^ ]*/,,; s/^ *([0-9,]+) \([^)]*\) +/\1 /; s/,//g; s/PROGRAM TOTALS/total/; s/ .*(memset|memcpy|memmove).*/ memory::functions/'
+}
+
+if [ "$1" = --crates ]; then
+    echo "| | verified | Rust | by crate |"
+    echo "|---|--:|--:|---|"
+    "$built" --rows | while read -r row label; do
+        crates=$(by_function "$row" | awk '
+            $2 == "total" { all = $1; next }
+            { split($2, part, "::"); sum[part[1] ~ /^lnk100_/ ? "linker" : part[1]] += $1 }
+            END { for (name in sum) if (sum[name] * 100 >= all) printf "%d %s\n", sum[name] * 100 / all, name }' | sort -rn \
+            | awk '{ printf "%s%s %d%%", (NR == 1 ? "" : ", "), ($2 == "memory" ? "memset and memcpy" : $2), $1 }')
+        echo "| $label | $(($(one_call "$row" verified) / 1000)) k | $(($(one_call "$row" rust) / 1000)) k | $crates |"
+    done
+    exit
+fi
+
 for row in "$@"; do
     "$built" --rows | sed -n "$((row + 1))p"
     for who in verified rust; do
-        echo "    $who, as built: $(($(counted "$row" $who 2) - $(counted "$row" $who 1))) instructions, the copy of the state before the call among them"
+        echo "    $who, as built: $(one_call "$row" $who) instructions, the copy of the state before the call among them"
     done
-    valgrind --tool=callgrind --callgrind-out-file="$out/row" --toggle-collect=lnk100_load --toggle-collect=lnk100_end \
-        --toggle-collect=lnk100_memory "$apart" --play "$row" verified > "$out/log" 2>&1
-    callgrind_annotate --threshold=99 "$out/row" 2> /dev/null | grep -E '^ *[0-9,]+ \(' | sed -E 's/ \[.*//; s/\?\?\?://; s,[^ ]*/,,; s/^/    /'
+    by_function "$row" | awk '$2 == "total" { all = $1 } $1 * 200 >= all { printf "%12d %5.1f%%  %s\n", $1, $1 * 100 / all, $2 }'
 done
