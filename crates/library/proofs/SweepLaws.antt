@@ -10,10 +10,13 @@ use lib.Dec.{eqb}
 use borrow.Author.Tests.{eqb-true, eqb-false}
 use Rattle.rules.specs.Reading.{Module}
 use Rattle.rules.specs.Search.{Places, with, Sweep, sweepOf, visit, sweep, round}
-use Rattle.rules.specs.Load.{Walk, wants, place}
+use Rattle.rules.specs.Load.{Walk, wanted, wants, place}
 use Rattle.tables.specs.Tables.{moduleIn, modulesIn}
+use Rattle.state.specs.Layout.{decode}
+use Rattle.state.specs.Good.{Good}
 use Rattle.library.specs.Searching.{Agrees, Turned, Visited, setOf, RoundIs, Swept}
 use Rattle.library.specs.declared.taking.Turn.{Turn}
+use Rattle.library.proofs.TurnLaws.{unwanted-left, visit-left}
 
 -- ---- the modules of the rows from a row on
 
@@ -110,6 +113,21 @@ module _ (parts rows : List ℕ) (first n : ℕ) where
               ∙ ap (λ ms. sweep wants place i ms (sweepOf (setOf flags) k (l .here))) (sym (modules-next parts rows first n i b))
               ∙ l .is;
         }
+
+    -- a module that is not wanted is passed by
+    pub swept-idle : i < n → i < length flags → Good cells →
+        (fault ≡ 0 → wanted (decode cells) (moduleIn parts rows (first + i)) ≡ false) →
+        Swept s (i + 1) k (from (i + 1)) flags fault line cells
+    swept-idle b h g u =
+        let m = moduleIn parts rows (first + i) in
+        let none : k + 0 ≡ k = omega arith in
+        subst
+        (λ fs. Swept s (i + 1) k (from (i + 1)) fs fault line cells)
+        (set-getD flags i false)
+        (subst
+        (λ t. Swept s (i + 1) t (from (i + 1)) (set flags i (getD flags i false)) fault line cells)
+        none
+        (swept-next b h (visit-left (unwanted-left m (getD flags i false) cells u) g refl)))
 
     pub swept-done : n ≤ i → RoundIs s (record { flags = flags; took = k; fault = fault; line = line }) cells
     unfolding sweep

@@ -113,6 +113,17 @@ wants-is {w} {fault} {line} {before} a m = go (eqb fault 0) refl
     go true e = rw (goes-on a (eqb-true fault 0 e)) (ap (λ s. wanted s m) (sym (a .state-is (eqb-true fault 0 e))))
     go false e = rw (stands a (eqb-false fault 0 e))
 
+-- a module that is not wanted is not taken
+pub unwanted-left : (m : Module) (flag : Bool) {fault : ℕ} (cells : List ℕ) → (fault ≡ 0 → wanted (decode cells) m ≡ false) →
+    false ≡ takes flag fault cells m
+unfolding takes
+unwanted-left m flag {fault} cells u = go flag (eqb fault 0) refl
+  where
+    go : (b d : Bool) → eqb fault 0 ≡ d → false ≡ (not b && (d && wanted (decode cells) m))
+    go true d e = refl
+    go false true e = sym (u (eqb-true fault 0 e))
+    go false false e = refl
+
 -- a walk that takes a module goes on
 pub taken-goes-on : (m : Module) (flag : Bool) {fault : ℕ} (before : List ℕ) {r : Bool} → r ≡ takes flag fault before m → not r ≡ false →
     fault ≡ 0

@@ -17,7 +17,7 @@ pub struct Round {
     pub line: u64,
 }
 
-// Visits the modules in their order.
+// Visits the modules in their order, those that may be due.
 fn one_round(
     parts: &[u64],
     rows: &[u64],
@@ -41,24 +41,27 @@ fn one_round(
     let mut at = line;
     let mut i = 0;
     while i < n {
-        let v = visit(
-            parts,
-            rows,
-            first,
-            n,
-            i,
-            marks[i],
-            number,
-            at,
-            index,
-            due,
-            state,
-        );
-        marks[i] = v.flag;
-        took += v.took;
-        number = v.fault;
-        at = v.line;
+        let k = i;
         i += 1;
+        if due[k] != 0 {
+            let v = visit(
+                parts,
+                rows,
+                first,
+                n,
+                k,
+                marks[k],
+                number,
+                at,
+                index,
+                due,
+                state,
+            );
+            marks[k] = v.flag;
+            took += v.took;
+            number = v.fault;
+            at = v.line;
+        }
     }
     Round {
         flags: marks,

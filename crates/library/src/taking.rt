@@ -6,13 +6,10 @@ use placing::place;
 use state::header::symbol_count;
 use tables::module_cells;
 ghost use Prim.Native.Nat.{_+_, _<_, _≤_};
-ghost use mathlib.Core.Bool.{false};
 ghost use mathlib.Core.Path.{_≡_};
 ghost use lib.ListN.{length};
 ghost use Rattle.rules.specs.Placing.{externals};
-ghost use Rattle.rules.specs.Load.{wanted};
 ghost use Rattle.tables.specs.Tables.{moduleIn};
-ghost use Rattle.state.specs.Layout.{decode};
 ghost use Rattle.state.specs.Good.{Good};
 ghost use Rattle.library.specs.Searching.{PlacedRow, Section, takes, Visited};
 ghost use Rattle.library.specs.Due.{Idle};
@@ -58,19 +55,9 @@ pub struct Turn {
     pub line: u64,
 }
 
-// Is the module of a row to be taken: not taken yet, in a walk that goes on, and with an undefined entry? Where its flag `due` is
-// clear it has none.
-fn is_due(
-    parts: &[u64],
-    rows: &[u64],
-    row: usize,
-    flag: bool,
-    fault: u64,
-    due: u8,
-    state: &[u64],
-) -> bool
+// Is the module of a row to be taken: not taken yet, in a walk that goes on, and with an undefined entry?
+fn is_due(parts: &[u64], rows: &[u64], row: usize, flag: bool, fault: u64, state: &[u64]) -> bool
     requires { ⌜ row < 131072 ⌝ }
-    requires { ⌜ (fault ≡ 0 → due ≡ 0 → wanted (decode (now state)) (moduleIn (now parts) (now rows) row) ≡ false) ⌝ }
     requires { ⌜ Good (now state) ⌝ }
     ensures { λ r. ⌜ r ≡ takes flag fault (now (state .entry)) (moduleIn (now (parts .entry)) (now (rows .entry)) row) ⌝ }
 {
@@ -78,9 +65,6 @@ fn is_due(
         return false;
     }
     if fault != 0 {
-        return false;
-    }
-    if due == 0 {
         return false;
     }
     wants(module_cells(parts, rows, row), state)
@@ -106,7 +90,7 @@ pub fn visit(
     ensures { λ r. ⌜ Visited (moduleIn (now (parts .entry)) (now (rows .entry)) (first + i)) flag fault line (now (state .entry)) r (now (state .exit)) × Idle (now (parts .entry)) (now (rows .entry)) first n (r .fault) (now (index .entry)) (now (state .exit)) (now (due .exit)) ⌝ }
 {
     let row = first + i;
-    if !is_due(parts, rows, row, flag, fault, due[i], state) {
+    if !is_due(parts, rows, row, flag, fault, state) {
         return Turn {
             flag,
             took: 0,

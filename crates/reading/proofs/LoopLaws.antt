@@ -83,12 +83,13 @@ module _ (file lentParts lentRows : List ℕ) where
 
   module _ {parts rows : List ℕ} {m : Mode} {f : Filled} {n at : ℕ} (b : Before parts rows m f n at) where
     pub turn :
-        {r : LineSpan} → NextLine at file r → {a : LineAnswer} → a ≡ lineAnswer (m .wanted) (part at (r .stop) file)
-        → {s : Step} → s ≡ stepOf n m a → Turn (b .here) n (r .next) s
+        {r : LineSpan} → NextLine at file r → {h : Mode} → h ≡ m
+        → {a : LineAnswer} → a ≡ lineAnswer (h .wanted) (part at (r .stop) file)
+        → {s : Step} → s ≡ stepOf n h a → Turn (b .here) n (r .next) s
     unfolding readFrom tablesFrom weight
-    turn {r} l {a} p {s} q =
+    turn {r} l {h} g {a} p {s} q =
         let line = part at (r .stop) file in
-        let e : s ≡ stepAt n m line = q ∙ ap (stepOf n m) p in
+        let e : s ≡ stepAt n m line = q ∙ ap (stepOf n h) p ∙ ap (λ (k : Mode). stepAt n k line) g in
         record {
           reading =
               ap (λ (x : Step). onward n x (λ k. readFrom (n + 1) k (rest (r .next)))) e

@@ -13,6 +13,7 @@ use rules::reading::Step;
 use steps::lines::at_end;
 use steps::lines::step_of;
 use steps::modes::at_start;
+use steps::modes::renewed;
 ghost use mathlib.Core.Path.{_≡_};
 ghost use Rattle.rules.specs.declared.reading.Reading.the-variants.{Stopped};
 ghost use Rattle.reading.specs.Filling.{fileRead, Lent, ReadInto};
@@ -51,9 +52,10 @@ pub fn read_file(file: &[u8], parts: &mut [u64], rows: &mut [u64]) -> FileRead
     while at < file.len() {
         let n = line;
         let span = line_from(file, at);
-        let wanted = mode.wanted;
+        let here = renewed(mode);
+        let wanted = here.wanted;
         let answer = line_answer(file, at, span.stop, span.front, wanted);
-        let step = step_of(n, mode, answer);
+        let step = step_of(n, here, answer);
         at = span.next;
         line += 1;
         match step {

@@ -33,17 +33,31 @@ pub fn at_start() -> Mode
     }
 }
 
-// The same module and section, with another line wanted and another block open.
+// The same module and section, with another line wanted and another block open. It is made field by field: a struct that is
+// copied whole takes its padding along, and the machine then waits for it at each line.
 fn with_block(wanted: Wanted, block: OpenBlock, m: Mode) -> Mode
     ensures { λ r. ⌜ r ≡ mode wanted block (m .object) (m .section) ⌝ }
 {
-    let object = m.object;
-    let section = m.section;
     Mode {
         wanted,
-        block,
-        object,
-        section,
+        block: OpenBlock {
+            offset: block.offset,
+            count: block.count,
+            remaining: block.remaining,
+            subs: block.subs,
+        },
+        object: OpenModule {
+            inside: m.object.inside,
+            title: m.object.title,
+            line: m.object.line,
+            entries: m.object.entries,
+            externals: m.object.externals,
+        },
+        section: OpenSection {
+            inside: m.section.inside,
+            line: m.section.line,
+            modules: m.section.modules,
+        },
     }
 }
 
@@ -52,6 +66,14 @@ pub fn want(wanted: Wanted, m: Mode) -> Mode
 {
     let block = m.block;
     with_block(wanted, block, m)
+}
+
+// The same mode, made field by field.
+pub fn renewed(m: Mode) -> Mode
+    ensures { λ r. ⌜ r ≡ m ⌝ }
+{
+    let wanted = m.wanted;
+    want(wanted, m)
 }
 
 pub fn want_records(wanted: Wanted, offset: u16, count: u16, m: Mode) -> Mode

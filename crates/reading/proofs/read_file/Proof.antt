@@ -20,16 +20,16 @@ abbrev μ-loop : tie.MeasureT-loop
 stepped :
     (c : tie.After-step-of Inv-loop μ-loop) {s : Step} → c .step-of .result ≡ s
     → Turn
-    (c .before .before .before .before .before .before .before .before .before .before .args .file .now)
-    (c .before .before .before .before .before .before .before .before .before .before .args .parts .now)
-    (c .before .before .before .before .before .before .before .before .before .before .args .rows .now)
-    (c .before .before .before .before .loop .inv .here)
-    (c .before .before .before .before .loop .line)
-    (c .before .before .line-from .result .next)
+    (c .before .before .before .before .before .before .before .before .before .before .before .args .file .now)
+    (c .before .before .before .before .before .before .before .before .before .before .before .args .parts .now)
+    (c .before .before .before .before .before .before .before .before .before .before .before .args .rows .now)
+    (c .before .before .before .before .before .loop .inv .here)
+    (c .before .before .before .before .before .loop .line)
+    (c .before .before .before .line-from .result .next)
     s
 stepped c e =
-    turn _ _ _ (c .before .before .before .before .loop .inv) (c .before .before .line-from .ensures)
-    (c .before .line-answer .ensures) (sym e ∙ c .step-of .ensures)
+    turn _ _ _ (c .before .before .before .before .before .loop .inv) (c .before .before .before .line-from .ensures)
+    (c .before .before .renewed .ensures) (c .before .line-answer .ensures) (sym e ∙ c .step-of .ensures)
 
 at-start-requires : tie.Need-at-start-requires Inv-loop μ-loop
 at-start-requires c κs = search needs
@@ -44,6 +44,9 @@ loop-holds c =
 
 line-from-requires : tie.Need-line-from-requires Inv-loop μ-loop
 line-from-requires c κs = search needs
+
+renewed-requires : tie.Need-renewed-requires Inv-loop μ-loop
+renewed-requires c κs = search needs
 
 line-answer-requires : tie.Need-line-answer-requires Inv-loop μ-loop
 line-answer-requires c κs = search needs
@@ -62,18 +65,18 @@ stopped-requires c κs = search needs
 
 same-length : tie.Need-same-length Inv-loop μ-loop
 same-length c =
-    let p = c .before .before .before .before .before .before .before .before in
+    let p = c .before .before .before .before .before .before .before .before .before in
     p .loop .inv .part-size ∙ sym (p .before .before .before .before .before .before .pre .part-room)
 
 same-length-2 : tie.Need-same-length-2 Inv-loop μ-loop
 same-length-2 c =
-    let p = c .before .before .before .before .before .before .before .before in
+    let p = c .before .before .before .before .before .before .before .before .before in
     p .loop .inv .row-size ∙ sym (p .before .before .before .before .before .before .pre .row-room)
 
 returns : tie.Need-returns Inv-loop μ-loop
 returns c =
     let p = c .before .before .before .before in
-    faulty _ _ _ (p .before .before .before .before .loop .inv)
+    faulty _ _ _ (p .before .before .before .before .before .loop .inv)
     (stepped p (c .before .before .step .given .1)) (c .stopped .ensures)
 
 enum-known-step-2 : tie.Need-enum-known-step-2 Inv-loop μ-loop
@@ -85,7 +88,7 @@ loop-less c = search needs
 loop-again : tie.Need-loop-again Inv-loop μ-loop
 loop-again c =
     let p = c .before .before .before in
-    skipped _ _ _ (p .before .before .before .before .loop .inv) (stepped p (c .before .step2 .given .1))
+    skipped _ _ _ (p .before .before .before .before .before .loop .inv) (stepped p (c .before .step2 .given .1))
 
 enum-known-step-3 : tie.Need-enum-known-step-3 Inv-loop μ-loop
 enum-known-step-3 c = search needs
@@ -93,7 +96,7 @@ enum-known-step-3 c = search needs
 add-part-requires : tie.Need-add-part-requires Inv-loop μ-loop
 add-part-requires c κs =
     let p = c .before .before .before .before in
-    part-room _ _ _ (p .before .before .before .before .loop .inv)
+    part-room _ _ _ (p .before .before .before .before .before .loop .inv)
     (stepped p (c .before .before .step3 .given .1))
 
 loop-less-2 : tie.Need-loop-less-2 Inv-loop μ-loop
@@ -102,7 +105,7 @@ loop-less-2 c = search needs
 loop-again-2 : tie.Need-loop-again-2 Inv-loop μ-loop
 loop-again-2 c =
     let p = c .before .before .before .before .before .before .before in
-    added _ _ _ (p .before .before .before .before .loop .inv)
+    added _ _ _ (p .before .before .before .before .before .loop .inv)
     (stepped p (c .before .before .before .before .before .step3 .given .1))
     (c .before .before .add-part .ensures) (c .before .before .add-part .kept .0)
 
@@ -112,7 +115,7 @@ enum-known-step-4 c = search needs
 close-module-requires : tie.Need-close-module-requires Inv-loop μ-loop
 close-module-requires c κs =
     let p = c .before .before .before .before in
-    module-room _ _ _ (p .before .before .before .before .loop .inv)
+    module-room _ _ _ (p .before .before .before .before .before .loop .inv)
     (stepped p (c .before .before .step4 .given .1))
 
 loop-less-3 : tie.Need-loop-less-3 Inv-loop μ-loop
@@ -121,7 +124,7 @@ loop-less-3 c = search needs
 loop-again-3 : tie.Need-loop-again-3 Inv-loop μ-loop
 loop-again-3 c =
     let p = c .before .before .before .before .before .before .before in
-    module-closed _ _ _ (p .before .before .before .before .loop .inv) (c .before .before .close-module .kept .0)
+    module-closed _ _ _ (p .before .before .before .before .before .loop .inv) (c .before .before .close-module .kept .0)
     (stepped p (c .before .before .before .before .before .step4 .given .1)) (c .before .before .close-module .ensures)
 
 enum-known-step-5 : tie.Need-enum-known-step-5 Inv-loop μ-loop
@@ -130,7 +133,7 @@ enum-known-step-5 c = search needs
 close-section-requires : tie.Need-close-section-requires Inv-loop μ-loop
 close-section-requires c κs =
     let p = c .before .before .before .before in
-    section-room _ _ _ (p .before .before .before .before .loop .inv)
+    section-room _ _ _ (p .before .before .before .before .before .loop .inv)
     (stepped p (c .before .before .step5 .given .1))
 
 loop-less-4 : tie.Need-loop-less-4 Inv-loop μ-loop
@@ -139,7 +142,7 @@ loop-less-4 c = search needs
 loop-again-4 : tie.Need-loop-again-4 Inv-loop μ-loop
 loop-again-4 c =
     let p = c .before .before .before .before .before .before .before in
-    section-closed _ _ _ (p .before .before .before .before .loop .inv) (c .before .before .close-section .kept .0)
+    section-closed _ _ _ (p .before .before .before .before .before .loop .inv) (c .before .before .close-section .kept .0)
     (stepped p (c .before .before .before .before .before .step5 .given .1)) (c .before .before .close-section .ensures)
 
 at-end-requires : tie.Need-at-end-requires Inv-loop μ-loop
@@ -169,6 +172,7 @@ read-file-spec =
     nothing-requires
     loop-holds
     line-from-requires
+    renewed-requires
     line-answer-requires
     step-of-requires
     add-line

@@ -14,19 +14,15 @@ returns-2 : tie.Need-returns-2
 unfolding takes
 returns-2 c = simp (c .before .if1 .left, ne-eqb _ _ (c .if2 .taken))
 
-returns-3 : tie.Need-returns-3
-unfolding takes
-returns-3 c = simp (c .before .before .if1 .left, eq-eqb _ _ (c .before .if2 .left), c .before .before .before .before .before .before .pre .1 .0 (c .before .if2 .left) (c .if3 .taken))
-
 module-cells-requires : tie.Need-module-cells-requires
 module-cells-requires c κs = search needs
 
 wants-requires : tie.Need-wants-requires
 wants-requires c κs = search needs
 
-returns-4 : tie.Need-returns-4
+returns-3 : tie.Need-returns-3
 unfolding takes
-returns-4 c = let a = c .before .before .before .before .before .before .before .before .args in simp (c .before .before .before .before .if1 .left, eq-eqb _ _ (c .before .before .before .if2 .left)) (wanted-row (a .parts .now) (a .rows .now) (a .row) (c .before .module-cells .ensures) (decode (a .state .now)) (c .wants .ensures))
+returns-3 c = let a = c .before .before .before .before .before .before .before .args in simp (c .before .before .before .if1 .left, eq-eqb _ _ (c .before .before .if2 .left)) (wanted-row (a .parts .now) (a .rows .now) (a .row) (c .before .module-cells .ensures) (decode (a .state .now)) (c .wants .ensures))
 
 pub is-due-spec : {M : Type 1} → statement M
-is-due-spec = tie.close (tie.spec returns returns-2 returns-3 module-cells-requires wants-requires returns-4)
+is-due-spec = tie.close (tie.spec returns returns-2 module-cells-requires wants-requires returns-3)

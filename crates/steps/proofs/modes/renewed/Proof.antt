@@ -1,0 +1,16 @@
+-- `steps::modes::renewed` meets its contract: what is wanted stays.
+-- Assumes nothing.
+use borrow.Author.Needs.{needs}
+use Rattle.rules.specs.Reading.{want}
+use Rattle.steps.proofs.modes.renewed.Statement.{statement}
+use Rattle.steps.proofs.modes.renewed.Tie as tie
+
+want-requires : tie.Need-want-requires
+want-requires c κs = search needs
+
+returns : tie.Need-returns
+unfolding want
+returns c = c .want .ensures
+
+pub renewed-spec : {M : Type 1} → statement M
+renewed-spec = tie.close (tie.spec want-requires returns)
