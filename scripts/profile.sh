@@ -14,8 +14,8 @@ cd "$(dirname "$0")/.."
 KEPT='cells::(clear|copy)|soundness::memory::refusal|soundness::cells::(names_differ|symbols_sound|words_sound|zero_between)
 |reading::read_file|reading::fill::add_part|text::lines::next_line|record::(line_answer|fields_say|test_bytes)|record::fitting::fit
 |record::fields::read_field|record::shapes::read_as|record::records::(code|entry)_line|record::headers::header_line|steps::lines::step_of
-|walking::walk|repeats::(repeats|entered_in)|library::rounds::\w+|library::modules::wants|state::table::find|placing::place
-|placing::symbols::(enter|mention_all)|placing::words::(lay|link)|parts::tests::\w+|image::(image_length|write_words|write_image)
+|lines::\w+|walking::walk|entries::(repeats|add_module|find)|library::rounds::\w+|library::due::raise_from|library::modules::wants|state::table::find
+|placing::place|placing::symbols::(enter|mention_all)|placing::words::(lay|link)|parts::tests::\w+|image::(image_length|write_words|write_image)
 |loading::(walk_file|load_file)'
 
 kit=$(dirname "$(dirname "$(rt doc)")")

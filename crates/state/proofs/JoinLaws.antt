@@ -78,6 +78,16 @@ place-there (s ∷ t) x (suc i) d h e =
         (ap (λ (y : ℕ). not (any (nameIs y) t)) (eqb-true (s .name) x q) ∙ ap not (stands t i (le-of-suc-le-suc h) e))
     go false q rest = omega (arith, rest)
 
+-- at a name's place stands the name
+pub name-at-place : (x : ℕ) (t : List Symbol) → placeOf x t < length t → getD t (placeOf x t) noSymbol .name ≡ x
+unfolding placeOf
+name-at-place x [] h = absurd (not-suc-le-zero h)
+name-at-place x (s ∷ t) h = go (eqb (s .name) x) refl (name-at-place x t) h
+  where
+    go : (b : Bool) → eqb (s .name) x ≡ b → (placeOf x t < length t → getD t (placeOf x t) noSymbol .name ≡ x) → cond b 0 (placeOf x t + 1) < suc (length t) → getD (s ∷ t) (cond b 0 (placeOf x t + 1)) noSymbol .name ≡ x
+    go true q f l = eqb-true (s .name) x q
+    go false q f l = rw (add-one (placeOf x t)) (f (omega arith))
+
 -- a table only grows
 pub define-length : (x v : ℕ) (t : List Symbol) → length (define x v t) ≡ max (length t) (placeOf x t + 1)
 define-length x v t =

@@ -27,21 +27,6 @@ module _ (cells : List ℕ) (i : ℕ) where
   unfolding symbolsFrom
   symbols-end h = ap (map (symbolIn cells)) (range-end i (getD cells 0 0) h)
 
-  -- ---- a name's place
-
-  module _ (x : ℕ) where
-    pub place-found : i < getD cells 0 0 → getD cells (4 + i) 0 ≡ x → placeOf x (symbolsFrom cells i) ≡ 0
-    unfolding placeOf
-    place-found h e = rw (symbols-step h, eq-eqb _ _ e)
-
-    pub place-on : i < getD cells 0 0 → getD cells (4 + i) 0 ≢ x → placeOf x (symbolsFrom cells i) ≡ placeOf x (symbolsFrom cells (i + 1)) + 1
-    unfolding placeOf
-    place-on h e = rw (symbols-step h, ne-eqb _ _ e)
-
-    pub place-end : getD cells 0 0 ≤ i → placeOf x (symbolsFrom cells i) ≡ 0
-    unfolding placeOf
-    place-end h = rw (symbols-end h)
-
   -- ---- the undefined symbols
 
   pub undefined-here : i < getD cells 0 0 → getD cells (260 + i) 0 ≡ 0 → length (undefinedOnly (symbolsFrom cells i)) ≡ length (undefinedOnly (symbolsFrom cells (i + 1))) + 1
@@ -113,19 +98,3 @@ module _ {cells : List ℕ} (g : Good cells) (i : ℕ) (h : i < getD cells 0 0) 
   pub value-defined : getD cells (260 + i) 0 ≢ 0 → valueOf (decode cells .symbols) i ≡ getD cells (260 + i) 0 - 65536
   unfolding valueOf
   value-defined e = rw (symbol-is cells i h, ne-eqb _ _ e)
-
--- ---- a search that has come to place k, where the name is at `whole`
-
-module _ (cells : List ℕ) (x whole : ℕ) where
-  abbrev pub Sought : ℕ → Type 0
-  Sought k = k + placeOf x (symbolsFrom cells k) ≡ whole
-
-  module _ (k a : ℕ) (at : a ≡ 4 + k) (h : k < getD cells 0 0) (s : Sought k) where
-    pub sought-here : getD cells a 0 ≡ x → k ≡ whole
-    sought-here e = omega (arith, s, place-found cells k x h (ap (λ (j : ℕ). getD cells j 0) (sym at) ∙ e))
-
-    pub sought-on : (k′ : ℕ) → k′ ≡ k + 1 → getD cells a 0 ≢ x → Sought k′
-    sought-on k′ q e =
-        let one : placeOf x (symbolsFrom cells k) ≡ placeOf x (symbolsFrom cells (k + 1)) + 1 =
-        place-on cells k x h (λ f. e (ap (λ (j : ℕ). getD cells j 0) at ∙ f)) in
-        rw q (omega (arith, s, one))

@@ -3,56 +3,55 @@ use crate::layout::DEFINED;
 use crate::layout::MOST_SYMBOLS;
 use crate::layout::NAMES;
 use crate::layout::VALUES;
-ghost use Prim.Native.Nat.{_+_, _≤_, _<_};
+ghost use Prim.Native.Nat.{_≤_, _<_};
 ghost use mathlib.Core.Path.{_≡_};
 ghost use lib.ListN.{length, getD};
-ghost use Rattle.rules.specs.State.{placeOf, isDefined, isUndefined, undefinedOnly};
+ghost use Rattle.rules.specs.State.{isDefined, isUndefined, undefinedOnly};
 ghost use Rattle.rules.specs.Image.{valueOf};
 ghost use Rattle.rules.specs.Placing.{define as defined-in, mention as mentioned-in};
-ghost use Rattle.state.specs.Layout.{symbolsFrom, decode};
+ghost use Rattle.state.specs.Layout.{decode};
 ghost use Rattle.state.specs.Good.{Good};
-ghost use Rattle.state.specs.Table.{Place, Joined, MentionedAt, listed, noSymbol, undefinedPlace};
+ghost use Rattle.state.specs.Table.{Place, NoneFrom, Joined, MentionedAt, listed, noSymbol, undefinedPlace};
 
-// The place of a name among the symbols from the i-th on, the count of symbols where there is none.
-fn find_from(state: &[u64], name: u64, start: usize) -> usize
+// The place of a name that none of the symbols from `end` on has, the count of symbols where there is none.
+fn find_below(state: &[u64], name: u64, end: usize) -> usize
     requires { ⌜ Good (now state) ⌝ }
-    requires { ⌜ start ≤ length (decode (now state) .symbols) ⌝ }
-    ensures { λ r. ⌜ (r ≤ length (decode (now (state .entry)) .symbols)) × (r ≡ start + placeOf name (symbolsFrom (now (state .entry)) start)) ⌝ }
+    requires { ⌜ (end ≤ getD (now state) 0 0) × NoneFrom (now state) name end ⌝ }
+    ensures { λ r. ⌜ Place name (decode (now (state .entry)) .symbols) r ⌝ }
 {
-    let n = state[0] as usize;
-    let mut i = start;
-    while i < n {
+    let mut i = end;
+    while 0 < i {
+        i -= 1;
         if state[NAMES + i] == name {
             return i;
         }
-        i += 1;
     }
-    n
+    state[0] as usize
 }
 
-// A symbol's place, the count of symbols where there is none. Four names go in one turn: every search of the table comes here.
+// A symbol's place, the count of symbols where there is none. Every search of the table comes here: the last symbols are looked at
+// first, since a library is searched for those that were mentioned just before; and four names in one turn.
 pub fn find(state: &[u64], name: u64) -> usize
     requires { ⌜ Good (now state) ⌝ }
     ensures { λ r. ⌜ Place name (decode (now (state .entry)) .symbols) r ⌝ }
 {
-    let n = state[0] as usize;
-    let mut i = 0;
-    while 3 < n - i {
-        if state[NAMES + i] == name {
-            return i;
+    let mut i = state[0] as usize;
+    while 3 < i {
+        if state[i + 3] == name {
+            return i - 1;
         }
-        if state[NAMES + i + 1] == name {
-            return i + 1;
+        if state[i + 2] == name {
+            return i - 2;
         }
-        if state[NAMES + i + 2] == name {
-            return i + 2;
+        if state[i + 1] == name {
+            return i - 3;
         }
-        if state[NAMES + i + 3] == name {
-            return i + 3;
+        if state[i] == name {
+            return i - 4;
         }
-        i += 4;
+        i -= 4;
     }
-    find_from(state, name, i)
+    find_below(state, name, i)
 }
 
 // The same, with a guess that is looked at first. Any number will do as a guess: names differ, so where the name stands, there is

@@ -1,6 +1,6 @@
 use borrow.Author.Needs.{needs}
 use native.Mathlib.Omega.{arith}
-use Rattle.state.proofs.TableLaws.{guessed}
+use Rattle.state.proofs.TableLaws.{name-found}
 use Rattle.state.proofs.table.find_by.Statement.{statement}
 use Rattle.state.proofs.table.find_by.Tie as tie
 use Rattle.state.proofs.table.find_by.Reads as reads
@@ -26,7 +26,7 @@ shared-slice-read-if2 : tie.Need-shared-slice-read-if2
 shared-slice-read-if2 c = search needs
 
 returns-2 : tie.Need-returns-2
-returns-2 c = guessed (c .before .before .before .before .before .pre) (c .before .before .before .before .before .args .name) (c .before .before .before .before .before .args .guess) (omega arith) (c .if2 .taken)
+returns-2 c = name-found (c .before .before .before .before .before .args .state .now) (c .before .before .before .before .before .args .name) (c .before .before .before .before .before .pre) (c .before .before .before .before .before .args .guess) _ (omega arith) (omega arith) (c .if2 .taken)
 
 find-requires-2 : tie.Need-find-requires-2
 find-requires-2 c κs = search needs
