@@ -11,8 +11,8 @@ use lib.Dec.{eqb}
 use borrow.Author.Tests.{eq-eqb, ne-eqb, eqb-true}
 use Rattle.rules.specs.Text.{LF, CR, linesOf, addToLines, startsLF, widenLine, legalFront}
 use Rattle.text.specs.Scan.{part, run, past, isNot, Found}
-use Rattle.text.specs.LineEnds.{lineNext, NextLine, isLegal, legalEnd, Passed, frontOf}
-use Rattle.text.proofs.ScanLaws.{Scanned, part-nil, part-all, part-front, run-yes, run-no, run-take, past-through, and-false}
+use Rattle.text.specs.LineEnds.{lineNext, NextLine, isLegal, legalEnd, frontOf}
+use Rattle.text.proofs.ScanLaws.{part-nil, part-all, part-front, run-yes, run-no, run-take, past-through, and-false}
 
 -- how many bytes stand before the first LF
 abbrev width : List ℕ → ℕ
@@ -119,16 +119,6 @@ legal-run zero [] = refl
 legal-run zero (b ∷ rest) = refl
 legal-run (suc n) [] = refl
 legal-run (suc n) (b ∷ rest) = ap (λ (k : ℕ). cond (isLegal b) (suc k) 0) (legal-run n rest)
-
--- what a scan over legal bytes has come to, and that it goes on from there
-module _ {at e i : ℕ} {l : List ℕ} where
-  pub scan-passed : Scanned isLegal at e l i → Passed at e l i
-  unfolding legalEnd
-  scan-passed s = record { from = s .from; to = s .to; same = s .same }
-
-  pub scan-on : e ≤ length l → Passed at e l i → Scanned isLegal at e l i
-  unfolding legalEnd
-  scan-on h s = record { from = s .from; to = s .to; size = h; same = s .same }
 
 -- where the first illegal byte of the file from the line's start on is known
 pub front-is :

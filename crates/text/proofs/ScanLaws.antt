@@ -158,10 +158,6 @@ module _ {p : ℕ → Bool} {at e : ℕ} {l : List ℕ} {i : ℕ} (s : Scanned p
         same = past-step p i e l h (s .size) b ∙ s .same;
       }
 
-  -- the same at a position that is told in other words
-  pub scan-more : i < e → p (getD l i 0) ≡ true → {j : ℕ} → j ≡ i + 1 → Scanned p at e l j
-  scan-more h b g = rw g (scan-step h b)
-
   pub scan-stop : i < e → p (getD l i 0) ≡ false → Found at e (past p at e l) i
   scan-stop h b = record { is = sym (past-stop p i e l h (s .size) b) ∙ s .same; least = s .from; most = s .to }
 

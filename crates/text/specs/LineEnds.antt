@@ -30,12 +30,6 @@ isLegal b = between 32 126 b
 unfoldable pub legalEnd : ℕ → ℕ → List ℕ → ℕ
 legalEnd i e file = past isLegal i e file
 
--- from `at` on only legal bytes stand before r
-pub record Passed (at e : ℕ) (file : List ℕ) (r : ℕ) : Type 0 where
-  pub from : at ≤ r
-  pub to : r ≤ e
-  pub same : legalEnd r e file ≡ legalEnd at e file
-
 -- the legal bytes at the front of the line from `at` to stop, at most 80, where the next illegal byte is at `illegal`
 abbrev pub frontOf : ℕ → ℕ → ℕ → ℕ
 frontOf at illegal stop = min 80 (min illegal stop - at)

@@ -1,11 +1,10 @@
 // The lines of a file.
-use crate::names::is_between;
 use crate::scan::find_byte;
 ghost use mathlib.Core.Path.{_≡_};
 ghost use Prim.Native.Nat.{_<_, _≤_, min};
 ghost use lib.ListN.{length};
 ghost use Rattle.text.specs.Scan.{InFile, Found};
-ghost use Rattle.text.specs.LineEnds.{isLegal, legalEnd, Passed, frontOf, NextLine};
+ghost use Rattle.text.specs.LineEnds.{legalEnd, frontOf, NextLine};
 
 const LF: u8 = 10;
 
@@ -19,56 +18,18 @@ pub struct LineSpan {
     pub front: usize,
 }
 
-fn is_legal(byte: u8) -> bool
-    ensures { λ r. ⌜ r ≡ isLegal byte ⌝ }
-{
-    is_between(32, 126, byte)
-}
-
-// The legal bytes from `at` on, eight in a turn, which is quicker than one: to an illegal one, or up to the last seven.
-fn legal_eights(file: &[u8], at: usize, end: usize) -> usize
-    requires { ⌜ InFile at end (now file) ⌝ }
-    ensures { λ r. ⌜ Passed at end (now (file .entry)) r ⌝ }
-{
-    let mut i = at;
-    while 7 < end - i {
-        if !is_legal(file[i]) {
-            return i;
-        }
-        if !is_legal(file[i + 1]) {
-            return i + 1;
-        }
-        if !is_legal(file[i + 2]) {
-            return i + 2;
-        }
-        if !is_legal(file[i + 3]) {
-            return i + 3;
-        }
-        if !is_legal(file[i + 4]) {
-            return i + 4;
-        }
-        if !is_legal(file[i + 5]) {
-            return i + 5;
-        }
-        if !is_legal(file[i + 6]) {
-            return i + 6;
-        }
-        if !is_legal(file[i + 7]) {
-            return i + 7;
-        }
-        i += 8;
-    }
-    i
-}
-
 // The first position from `at` on whose byte is illegal, or `end`.
 fn legal_end(file: &[u8], at: usize, end: usize) -> usize
     requires { ⌜ InFile at end (now file) ⌝ }
     ensures { λ r. ⌜ Found at end (legalEnd at end (now (file .entry))) r ⌝ }
 {
-    let mut i = legal_eights(file, at, end);
+    let mut i = at;
     while i < end {
-        if !is_legal(file[i]) {
+        let byte = file[i];
+        if byte < 32 {
+            return i;
+        }
+        if 126 < byte {
             return i;
         }
         i += 1;

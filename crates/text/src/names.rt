@@ -9,7 +9,7 @@ pub enum Name {
     NotAName,
 }
 
-pub fn is_between(low: u8, high: u8, byte: u8) -> bool
+fn is_between(low: u8, high: u8, byte: u8) -> bool
     ensures { λ r. ⌜ r ≡ between low high byte ⌝ }
 {
     low <= byte && byte <= high

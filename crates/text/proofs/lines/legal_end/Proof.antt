@@ -1,12 +1,9 @@
--- `text::lines::legal_end` meets its contract: a scan over legal bytes.
+-- `text::lines::legal_end` meets its contract: a scan over legal bytes, of which the two tests tell.
 -- Assumes nothing.
 use Prim.Native.Nat.{_-_}
-use mathlib.Core.Path.{sym, _∙_}
 use borrow.Author.Needs.{needs}
-use borrow.Author.Tests.{not-true, not-false}
 use Rattle.text.specs.LineEnds.{isLegal, legalEnd}
-use Rattle.text.proofs.ScanLaws.{Scanned, scan-step, scan-stop, scan-end}
-use Rattle.text.proofs.LineLaws.{scan-on}
+use Rattle.text.proofs.ScanLaws.{Scanned, scan-start, scan-step, scan-stop, scan-end, between-yes, between-low, between-high}
 use Rattle.text.proofs.lines.legal_end.Statement.{statement}
 use Rattle.text.proofs.lines.legal_end.Tie as tie
 
@@ -16,23 +13,21 @@ Inv-loop file at end i₀ i = Scanned isLegal at end file i
 abbrev μ-loop : tie.MeasureT-loop
 μ-loop file at end i₀ i = end - i
 
-legal-eights-requires : tie.Need-legal-eights-requires Inv-loop μ-loop
-legal-eights-requires c κs = search needs
-
 loop-holds : tie.Need-loop-holds Inv-loop μ-loop
-loop-holds c = scan-on (search needs) (c .legal-eights .ensures)
+loop-holds c = scan-start isLegal _ _ _ (search needs) (search needs)
 
-shared-slice-read-is-legal : tie.Need-shared-slice-read-is-legal Inv-loop μ-loop
-shared-slice-read-is-legal c = search needs
-
-is-legal-requires : tie.Need-is-legal-requires Inv-loop μ-loop
-is-legal-requires c κs = search needs
+shared-slice-read-byte : tie.Need-shared-slice-read-byte Inv-loop μ-loop
+shared-slice-read-byte c = search needs
 
 returns : tie.Need-returns Inv-loop μ-loop
 unfolding legalEnd
-returns c =
+returns c = scan-stop (c .before .before .before .loop .inv) (search needs) (between-low 32 126 _ (c .if1 .taken))
+
+returns-2 : tie.Need-returns-2 Inv-loop μ-loop
+unfolding legalEnd
+returns-2 c =
     scan-stop (c .before .before .before .before .loop .inv) (search needs)
-    (sym (c .before .is-legal .ensures) ∙ not-true _ (c .if1 .taken))
+    (between-high 32 126 _ (c .if2 .taken))
 
 add-i : tie.Need-add-i Inv-loop μ-loop
 add-i c = search needs
@@ -43,11 +38,11 @@ loop-less c = search needs
 loop-again : tie.Need-loop-again Inv-loop μ-loop
 loop-again c =
     scan-step (c .before .before .before .before .loop .inv) (search needs)
-    (sym (c .before .is-legal .ensures) ∙ not-false _ (c .if1 .left))
+    (between-yes 32 126 _ (c .before .if1 .left) (c .if2 .left))
 
-returns-2 : tie.Need-returns-2 Inv-loop μ-loop
+returns-3 : tie.Need-returns-3 Inv-loop μ-loop
 unfolding legalEnd
-returns-2 c = scan-end (c .before .loop .inv) (search needs)
+returns-3 c = scan-end (c .before .loop .inv) (search needs)
 
 pub legal-end-spec : {M : Type 1} → statement M
 legal-end-spec =
@@ -55,12 +50,11 @@ legal-end-spec =
     (tie.spec
     Inv-loop
     μ-loop
-    legal-eights-requires
     loop-holds
-    shared-slice-read-is-legal
-    is-legal-requires
+    shared-slice-read-byte
     returns
+    returns-2
     add-i
     loop-less
     loop-again
-    returns-2)
+    returns-3)
