@@ -1,6 +1,6 @@
 #!/usr/bin/env bash
 # Tries the wrong programs of edits/. They are must-fail edits like those of crates/*/must-fail, but of crates that take long to check,
-# so the gate has some of each such crate and the rest stand here. A quarter of an hour for all.
+# so the gate has some of each such crate and the rest stand here. Ten minutes for all.
 #
 #   scripts/edits.sh [CRATE ...]    those of these crates
 set -eu
