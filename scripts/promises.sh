@@ -78,13 +78,13 @@ while read -r kind line crate file name; do
   case $kind in
   definition) defined "$crate" "$file" "$name" || lacks "line $line: crate $crate, file $file has no $name" ;;
   function) grep -qsE "fn ${name}[(<]" crates/"$crate"/src/*.rt || lacks "line $line: crate $crate has no function $name" ;;
-  edit) [ -f "crates/$crate/must-fail/$name.edit" ] || [ -f "edits/$crate/$name.edit" ] || lacks "line $line: crate $crate has no edit $name" ;;
+  edit) [ -f "crates/$crate/must-fail/$name.edit" ] || [ -f "must-fail-slow/$crate/$name.edit" ] || lacks "line $line: crate $crate has no edit $name" ;;
   empty) lacks "line $line: column $name is empty" ;;
   *) lacks "line $line has $name columns" ;;
   esac
 done <<<"$rows"
 
-for edit in crates/*/must-fail/*.edit edits/*/*.edit; do
+for edit in crates/*/must-fail/*.edit must-fail-slow/*/*.edit; do
   crate=${edit#*/}
   crate=${crate%%/*}
   grep -q "^edit [0-9]* $crate - $(basename "$edit" .edit)\$" <<<"$rows" || lacks "no row has $edit"

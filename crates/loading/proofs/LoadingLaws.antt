@@ -17,7 +17,7 @@ use Rattle.rules.specs.declared.reading.Reading.the-variants.{Complete, Stopped
 use Rattle.state.specs.Layout.{lent, encode, decode, cellsAfter}
 use Rattle.state.specs.Good.{Good, Holds}
 use Rattle.state.proofs.LentLaws.{held-cells}
-use Rattle.library.specs.Searching.{Agrees}
+use Rattle.search.specs.Searching.{Agrees}
 use Rattle.walking.specs.declared.Walked.{Walked}
 use Rattle.walking.specs.Walking.{Goes, Went}
 use Rattle.loading.specs.Loading.{Loads, LoadCalled}

@@ -16,11 +16,11 @@ use Rattle.rules.proofs.TestLaws.{Every}
 use Rattle.rules.proofs.ReadingLaws.{ModuleSound, ItemSound}
 use Rattle.tables.specs.Tables.{kindIn, freeRow, sectionRow, lineIn, startIn, endIn, moduleIn, modulesIn, sectionIn, itemsFromRow, itemsIn}
 use Rattle.state.specs.Good.{Good}
-use Rattle.entries.specs.Index.{size, Tested}
-use Rattle.library.specs.Searching.{Agrees, Section, PlacedRow, Sought}
-use Rattle.library.proofs.SeekLaws.{length-modules}
-use Rattle.library.specs.declared.taking.Told.{Told}
-use Rattle.library.specs.declared.rounds.Outcome.{Outcome}
+use Rattle.index.specs.Index.{size, Tested}
+use Rattle.search.specs.Searching.{Agrees, Section, PlacedRow, Sought}
+use Rattle.search.proofs.SeekLaws.{length-modules}
+use Rattle.search.specs.declared.taking.Told.{Told}
+use Rattle.search.specs.declared.rounds.Outcome.{Outcome}
 use Rattle.walking.specs.declared.Walked.{Walked}
 use Rattle.walking.specs.Walking.{rowStep, RowSound, TestedSection, Indexable, Known, Goes, Went, Stands}
 

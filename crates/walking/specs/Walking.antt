@@ -10,9 +10,9 @@ use Rattle.rules.proofs.ReadingLaws.{ModuleSound, ItemSound}
 use Rattle.rules.specs.Load.{Walk, Progress, walkItem, walkItems, testSection, entryNames}
 use Rattle.tables.specs.Tables.{kindIn, freeRow, sectionRow, moduleIn, sectionIn}
 use Rattle.state.specs.Good.{Good}
-use Rattle.entries.specs.Index.{size, Owns}
-use Rattle.library.specs.Searching.{Agrees}
-use Rattle.library.specs.declared.taking.Told.{Told}
+use Rattle.index.specs.Index.{size, Owns}
+use Rattle.search.specs.Searching.{Agrees}
+use Rattle.search.specs.declared.taking.Told.{Told}
 use Rattle.walking.specs.declared.Walked.{Walked}
 
 -- what a row does to the walk: a free module is placed, a section searched; a member counts with its section

@@ -1,9 +1,9 @@
 // The walk over what a file holds: the rows in order, free modules placed, sections tested and searched.
-use entries::repeats;
-use library::modules::row_line;
-use library::rounds::search;
-use library::taking::Told;
-use library::taking::place_row;
+use index::repeats;
+use search::modules::row_line;
+use search::rounds::search;
+use search::taking::Told;
+use search::taking::place_row;
 use parts::heads::larger;
 use tables::cell;
 ghost use Prim.Native.Nat.{_+_, _-_, _*_, _≤_, _<_};
@@ -15,8 +15,8 @@ ghost use Rattle.rules.proofs.TestLaws.{Every};
 ghost use Rattle.rules.proofs.ReadingLaws.{ModuleSound, ItemSound};
 ghost use Rattle.tables.specs.Tables.{lineIn, moduleIn, modulesIn, sectionIn, itemsFromRow, itemsIn};
 ghost use Rattle.state.specs.Good.{Good};
-ghost use Rattle.entries.specs.Index.{size};
-ghost use Rattle.library.specs.Searching.{Section};
+ghost use Rattle.index.specs.Index.{size};
+ghost use Rattle.search.specs.Searching.{Section};
 ghost use Rattle.walking.specs.Walking.{rowStep, RowSound, TestedSection, Indexable, Known, Went};
 
 // A refusal's number and line, 0 where there is none, and the rounds of the searches so far.

@@ -8,7 +8,7 @@ use Rattle.rules.proofs.TestLaws.{Every}
 use Rattle.rules.proofs.ReadingLaws.{ItemSound}
 use Rattle.tables.specs.Tables.{itemsFromRow, itemsIn}
 use Rattle.state.specs.Good.{Good}
-use Rattle.entries.specs.Index.{size}
+use Rattle.index.specs.Index.{size}
 use Rattle.walking.specs.Walking.{Goes, Stands}
 use Rattle.walking.proofs.WalkingLaws.{row-sound, rest-sound, all-sound, stands-start, stands-next, stands-end}
 use Rattle.walking.proofs.walk.Statement.{statement}

@@ -4,7 +4,7 @@ use Rattle.walking.proofs.walk_free.Statement.{statement}
 use Rattle.walking.proofs.walk_free.Tie as tie
 use Rattle.walking.proofs.walk_free.Reads as reads
 use Rattle.walking.proofs.walk_free.Lts as lts
-use Rattle.library.proofs.taking.place_row.Reads as place-row-reads
+use Rattle.search.proofs.taking.place_row.Reads as place-row-reads
 
 place-row-requires : tie.Need-place-row-requires
 place-row-requires c κs = search needs

@@ -1,0 +1,141 @@
+// The entries of a library section, by name: is a name entered twice, and which module enters a name?
+//
+// The index is one lent array. Cell 0 counts the entries. Then come 2,048 slots: each names, from 1, the last entry whose name falls
+// into it. Then the entries in file order: the part, the entry before it in its slot, and the module. So a name is compared with those
+// of its slot alone, a few where names spread over the slots; names chosen to share one slot are still compared pair by pair.
+use parts::heads::is_entry;
+use tables::cell;
+use tables::module_cells;
+ghost use Prim.Native.Nat.{ℕ, _+_, _-_, _<_, _≤_};
+ghost use mathlib.Core.Bool.{true};
+ghost use mathlib.Core.Path.{_≡_};
+ghost use lib.ListN.{length, getD};
+ghost use Rattle.rules.specs.Load.{entryNames};
+ghost use Rattle.tables.specs.Tables.{headIn, moduleIn};
+ghost use Rattle.parts.specs.Cells.{isEntry};
+ghost use Rattle.index.specs.Index.{size, countOf, slotOf, ownerAt, Indexed, Found, Added, PartAdded, Filled, ModuleAdded, Cleared, Tested};
+
+// The first cell of the entries: behind the count and the slots.
+const ENTRIES: usize = 2049;
+
+const OWNER: u64 = 4294967296;
+
+fn slot(name: u64) -> usize
+    ensures { λ r. ⌜ r ≡ slotOf name ⌝ }
+{
+    (name % 2039) as usize
+}
+
+// The entry of this name, from 1; 0 where there is none.
+pub fn find(parts: &[u64], index: &[u64], name: u64) -> usize
+    requires { ⌜ Indexed (now parts) (now index) ⌝ }
+    ensures { λ r. ⌜ Found (now (parts .entry)) (now (index .entry)) name r ⌝ }
+{
+    let mut k = index[1 + slot(name)] as usize;
+    while k != 0 {
+        let entry = index[2048 + k];
+        if cell(parts, 2 * (entry % 65536) as usize + 1) == name {
+            return k;
+        }
+        k = (entry / 65536 % 65536) as usize;
+    }
+    0
+}
+
+// The module of an entry.
+pub fn owner(index: &[u64], k: usize) -> usize
+    requires { ⌜ (length (now index) ≡ size) × (0 < k) × (k ≤ 16384) ⌝ }
+    ensures { λ r. ⌜ r ≡ ownerAt (now (index .entry)) (k - 1) ⌝ }
+{
+    (index[2048 + k] / OWNER) as usize
+}
+
+// Adds the entry that is this part of a module.
+fn add(parts: &[u64], place: usize, owner: usize, index: &mut [u64])
+    requires { ⌜ (place < 65536) × (owner < 256) ⌝ }
+    requires { ⌜ Indexed (now parts) (now index) × (countOf (now index) < 16384) ⌝ }
+    ensures { λ r. ⌜ Added (now (parts .entry)) place owner (now (index .entry)) (now (index .exit)) ⌝ }
+{
+    let n = index[0];
+    let at = 1 + slot(cell(parts, 2 * place + 1));
+    let before = index[at];
+    index[ENTRIES + n as usize] = place as u64 + 65536 * before + OWNER * (owner as u64);
+    index[at] = n + 1;
+    index[0] = n + 1;
+}
+
+// Adds a part of a module, if it is an entry. Was an entry of its name there?
+fn add_part(parts: &[u64], place: usize, owner: usize, index: &mut [u64]) -> bool
+    requires { ⌜ (place < 65536) × (owner < 256) ⌝ }
+    requires { ⌜ Indexed (now parts) (now index) × (isEntry (headIn (now parts) place) ≡ true → countOf (now index) < 16384) ⌝ }
+    ensures { λ r. ⌜ PartAdded (now (parts .entry)) place owner (now (index .entry)) r (now (index .exit)) ⌝ }
+{
+    if !is_entry(cell(parts, 2 * place)) {
+        return false;
+    }
+    if find(parts, index, cell(parts, 2 * place + 1)) != 0 {
+        return true;
+    }
+    add(parts, place, owner, index);
+    false
+}
+
+// Adds the m-th of n modules. Is one of its names entered again?
+fn add_module(
+    parts: &[u64],
+    rows: &[u64],
+    first: usize,
+    n: usize,
+    m: usize,
+    index: &mut [u64],
+) -> bool
+    requires { ⌜ (first ≤ 65535) × (n ≤ 256) × (m < n) ⌝ }
+    requires { ⌜ length (now parts) ≤ 131072 ⌝ }
+    requires { ⌜ length (entryNames (moduleIn (now parts) (now rows) (first + m))) ≤ 64 ⌝ }
+    requires { ⌜ Filled (now parts) (now rows) first n m (now index) ⌝ }
+    ensures { λ r. ⌜ ModuleAdded (now (parts .entry)) (now (rows .entry)) first n m r (now (index .exit)) ⌝ }
+{
+    let row = first + m;
+    let start = (cell(rows, 2 * row + 1) % 65536) as usize;
+    let cells = module_cells(parts, rows, row);
+    let count = cells.len() / 2;
+    let mut q = 0;
+    while q < count {
+        if add_part(parts, start + q, m, index) {
+            return true;
+        }
+        q += 1;
+    }
+    false
+}
+
+// An empty index.
+fn clear(index: &mut [u64])
+    requires { ⌜ length (now index) ≡ size ⌝ }
+    ensures { λ r. ⌜ Cleared 2049 (now (index .exit)) ⌝ }
+{
+    let mut i = 0;
+    while i < ENTRIES {
+        index[i] = 0;
+        i += 1;
+    }
+}
+
+// Makes the index of the n modules from row `first` on. Is a name an entry twice? The index is then of no use.
+pub fn repeats(parts: &[u64], rows: &[u64], first: usize, n: usize, index: &mut [u64]) -> bool
+    requires { ⌜ (first ≤ 65535) × (n ≤ 256) ⌝ }
+    requires { ⌜ length (now parts) ≤ 131072 ⌝ }
+    requires { ⌜ ((i : ℕ) → i < n → length (entryNames (moduleIn (now parts) (now rows) (first + i))) ≤ 64) ⌝ }
+    requires { ⌜ length (now index) ≡ size ⌝ }
+    ensures { λ r. ⌜ Tested (now (parts .entry)) (now (rows .entry)) first n r (now (index .exit)) ⌝ }
+{
+    clear(index);
+    let mut m = 0;
+    while m < n {
+        if add_module(parts, rows, first, n, m, index) {
+            return true;
+        }
+        m += 1;
+    }
+    false
+}

@@ -1,0 +1,21 @@
+-- `record::records::past_field` meets its contract: behind the next field stand the others.
+-- Assumes nothing.
+use Rattle.line.proofs.PeekLaws.{passed}
+use borrow.Author.Needs.{needs}
+use Rattle.line.proofs.records.past_field.Statement.{statement}
+use Rattle.line.proofs.records.past_field.Tie as tie
+
+field-start-requires : tie.Need-field-start-requires
+field-start-requires c κs = search needs
+
+next-field-requires : tie.Need-next-field-requires
+next-field-requires c κs = search needs
+
+add-result : tie.Need-add-result
+add-result c = search needs
+
+returns : tie.Need-returns
+returns c = passed _ _ _ _ (c .before .before .before .pre) (c .before .field-start .ensures .is) _ (c .next-field .ensures .bytes)
+
+pub past-field-spec : {M : Type 1} → statement M
+past-field-spec = tie.close (tie.spec field-start-requires next-field-requires add-result returns)

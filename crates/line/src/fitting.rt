@@ -1,0 +1,93 @@
+// The fields of a line against the kinds that they have to be.
+use crate::fields::FieldRead;
+use crate::fields::read_field;
+use rules::line::Fault;
+use rules::line::FaultKind;
+use rules::line::LineAnswer;
+use text::fields::field_start;
+use text::fields::next_field;
+ghost use mathlib.Core.Bool.{cond};
+ghost use mathlib.Core.List.{map};
+ghost use mathlib.Core.Path.{_≡_};
+ghost use Prim.Native.Nat.{_≤_};
+ghost use lib.ListN.{length};
+ghost use Rattle.rules.specs.declared.line.LineAnswer.the-variants.{Bad};
+ghost use Rattle.rules.specs.Line.{fault};
+ghost use Rattle.text.specs.Scan.{InFile};
+ghost use Rattle.line.specs.Fitting.{kindOf, asFitted, fitLine, Misfit};
+
+// What the fields hold, each at its place, or the leftmost fault among them.
+pub struct FieldsRead {
+    pub fits: bool,
+    pub fault: Fault,
+    pub numbers: [u16; 8],
+    pub names: [u64; 8],
+}
+
+fn misfit(kind: FaultKind, column: usize) -> FieldsRead
+    ensures { λ r. ⌜ Misfit kind column r ⌝ }
+{
+    FieldsRead {
+        fits: false,
+        fault: Fault { kind, column },
+        numbers: [0; 8],
+        names: [0; 8],
+    }
+}
+
+// The fields of the line, which have to be of these kinds and no more.
+pub fn fit(file: &[u8], at: usize, stop: usize, kinds: &[u8]) -> FieldsRead
+    requires { ⌜ InFile at stop (now file) ⌝ }
+    requires { ⌜ length (now kinds) ≤ 8 ⌝ }
+    ensures { λ r. ⌜ asFitted (map kindOf (now (kinds .entry))) r ≡ fitLine (map kindOf (now (kinds .entry))) at stop (now (file .entry)) ⌝ }
+{
+    let mut numbers = [0u16; 8];
+    let mut names = [0u64; 8];
+    let mut i = at;
+    let mut k = 0;
+    while k < kinds.len() {
+        let start = field_start(file, i, stop);
+        if start == stop {
+            return misfit(FaultKind::FieldCount, stop - at + 1);
+        }
+        let field = next_field(file, start, stop);
+        match read_field(field, kinds[k]) {
+            FieldRead::Value { number, name } => {
+                numbers[k] = number;
+                names[k] = name;
+                i = start + field.len();
+                k += 1;
+            }
+            FieldRead::Wrong(fault) => return misfit(fault, start - at + 1),
+        }
+    }
+    let start = field_start(file, i, stop);
+    if start < stop {
+        return misfit(FaultKind::FieldCount, start - at + 1);
+    }
+    FieldsRead {
+        fits: true,
+        fault: Fault {
+            kind: FaultKind::FieldCount,
+            column: 0,
+        },
+        numbers,
+        names,
+    }
+}
+
+// What a line says: `answer` where its fields fit, else their fault.
+pub fn said(fits: bool, fault: Fault, answer: LineAnswer) -> LineAnswer
+    ensures { λ r. ⌜ r ≡ cond fits answer (Bad fault) ⌝ }
+{
+    if fits {
+        return answer;
+    }
+    LineAnswer::Bad(fault)
+}
+
+pub fn bad(kind: FaultKind, column: usize) -> LineAnswer
+    ensures { λ r. ⌜ r ≡ Bad (fault kind column) ⌝ }
+{
+    LineAnswer::Bad(Fault { kind, column })
+}

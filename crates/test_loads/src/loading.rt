@@ -1,0 +1,62 @@
+// LOAD, with memory of any length.
+use crate::cells::are_zero;
+use crate::cells::tell_state;
+use crate::cells::tell_work;
+use crate::print::answer;
+use crate::print::number;
+use crate::print::say;
+use linker::lnk100_load;
+use rules::answer::LoadAnswer;
+use test_script::between;
+
+// LOAD with the first cells as work memory.
+fn lend_work(state: &mut [u64], work: &mut [u64], size: usize, file: &[u8]) -> LoadAnswer {
+    if work.len() < size {
+        return lnk100_load(state, work, file);
+    }
+    lnk100_load(state, &mut work[..size], file)
+}
+
+// LOAD with the first cells as the state.
+fn lend_state(cells: &mut [u64], size: usize, work: &mut [u64], file: &[u8]) -> LoadAnswer {
+    if cells.len() < size {
+        return lend_work(cells, work, 65536, file);
+    }
+    lend_work(&mut cells[..size], work, 65536, file)
+}
+
+fn tell_answer(number_of_answer: u64, line: u64, rounds: u64) {
+    answer(b"LOAD", number_of_answer, line);
+    say(b", rounds ");
+    number(rounds);
+}
+
+// LOAD with the first `size` of cells that are all 5 as work memory.
+pub fn load(state: &mut [u64; 8708], size: usize, file: &[u8]) {
+    let before = *state;
+    let mut work = [5u64; 65537];
+    let a = lend_work(state, &mut work, size, file);
+    tell_answer(a.number, a.line, a.rounds);
+    tell_work(&work, size);
+    tell_state(&before, state);
+}
+
+// LOAD of so many line ends.
+pub fn load_blank(state: &mut [u64; 8708], count: usize) {
+    let blank = [10u8; 65537];
+    load(state, 65536, between(&blank, 0, count));
+}
+
+// LOAD with the first `size` of cells that are all zero as the state.
+pub fn load_into(size: usize, file: &[u8]) {
+    let mut cells = [0u64; 65537];
+    let mut work = [5u64; 65537];
+    let a = lend_state(&mut cells, size, &mut work, file);
+    tell_answer(a.number, a.line, a.rounds);
+    tell_work(&work, 65536);
+    if are_zero(&cells) {
+        say(b"; state same\n");
+        return;
+    }
+    say(b"; state changed\n");
+}
