@@ -84,7 +84,7 @@ module _ (file lentParts lentRows : List ℕ) where
   module _ {parts rows : List ℕ} {m : Mode} {f : Filled} {n at : ℕ} (b : Before parts rows m f n at) where
     pub turn :
         {r : LineSpan} → NextLine at file r → {h : Mode} → h ≡ m
-        → {a : LineAnswer} → a ≡ lineAnswer (h .wanted) (part at (r .stop) file)
+        → {a : LineAnswer} → a ≡ lineAnswer (h .expected) (part at (r .stop) file)
         → {s : Step} → s ≡ stepOf n h a → Turn (b .here) n (r .next) s
     unfolding readFrom tablesFrom weight
     turn {r} l {h} g {a} p {s} q =

@@ -7,7 +7,7 @@ use mathlib.Core.Path.{_≡_, refl, sym, ap, _∙_}
 use lib.Dec.{eqb, ltb, leb}
 use Rattle.rules.specs.Text.{between}
 use Rattle.rules.specs.Line.{lineAnswer}
-use Rattle.rules.specs.Reading.{titleStep, libraryStep, libraryEndStep, headerStep, closingStep, entryStep, externalStep, parameterStep, subStep, stepOf, stepAt, isHeader, atEnd, onward, readFrom, readingOf, atStart, insideModule, titleHeader, enterSection, leaveSection, wantRecords, want, recordDone, countEntry, countExternal, leaveModule, Module}
+use Rattle.rules.specs.Reading.{titleStep, libraryStep, libraryEndStep, headerStep, closingStep, entryStep, externalStep, parameterStep, subStep, stepOf, stepAt, isHeader, atEnd, onward, readFrom, readingOf, atStart, insideModule, titleHeader, enterSection, leaveSection, expectRecords, expect, recordDone, countEntry, countExternal, leaveModule, Module}
 use Rattle.rules.specs.State.{State}
 use Rattle.rules.specs.Placing.{placingFault, noRoom, overlaps, badArguments, outOfRange, duplicates, tableFull}
 use Rattle.rules.specs.declared.line.Header.{Header}
@@ -79,13 +79,13 @@ onward-number n (CloseSection m l) go h f = f m
 read-number : (n : ℕ) (m : Mode) (ls : List (List ℕ)) → readingNumber (readFrom n m ls) ≡ true
 unfolding readFrom atEnd readingNumber
 read-number n m [] =
-    cond-keeps readingNumber (isHeader (m .wanted) && not (m .object .inside || m .section .inside)) refl refl
+    cond-keeps readingNumber (isHeader (m .expected) && not (m .object .inside || m .section .inside)) refl refl
 read-number n m (l ∷ ls) =
     onward-number
     n
     (stepAt n m l)
     (λ m′. readFrom (n + 1) m′ ls)
-    (step-number n m (lineAnswer (m .wanted) l))
+    (step-number n m (lineAnswer (m .expected) l))
     (λ m′. read-number (n + 1) m′ ls)
 
 pub reading-number : (file : List ℕ) → readingNumber (readingOf file) ≡ true

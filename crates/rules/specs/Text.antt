@@ -7,6 +7,7 @@ use mathlib.Core.List.{List, [], _∷_}
 use mathlib.Core.Option.{Option, none, some}
 use lib.ListN.{length, getD}
 use lib.Dec.{eqb, leb, ltb}
+use Rattle.rules.specs.Limits.{mostDigits, largestNumber, longestName}
 
 -- a quoted text as bytes
 unfoldable pub bytes : String → List ℕ
@@ -103,7 +104,7 @@ octal v (d ∷ ds) = octal (v * 8 + (d - 48)) ds
 
 -- "Numbers in files are octal, one to six digits, at most 177777 (65,535)."
 unfoldable pub isNumber : List ℕ → Bool
-isNumber ds = between 1 6 (length ds) && (all isOctal ds && leb (octal 0 ds) 0o177777)
+isNumber ds = between 1 mostDigits (length ds) && (all isOctal ds && leb (octal 0 ds) largestNumber)
 
 unfoldable pub numberOf : List ℕ → Option ℕ
 numberOf ds = cond (isNumber ds) (some (octal 0 ds)) none
@@ -118,7 +119,7 @@ isLetterOrDigit b = isLetter b || between 48 57 b
 
 -- "Names are 1 to 6 characters, A to Z and 0 to 9, the first a letter."
 unfoldable pub isName : List ℕ → Bool
-isName cs = between 1 6 (length cs) && (isLetter (getD cs 0 0) && all isLetterOrDigit cs)
+isName cs = between 1 longestName (length cs) && (isLetter (getD cs 0 0) && all isLetterOrDigit cs)
 
 -- A name is kept as one number: its six bytes in base 256, the first highest, 0 where it is shorter.
 unfoldable pub packName : List ℕ → ℕ

@@ -1,11 +1,11 @@
 // What a data record does.
 use crate::modes::record_done;
-use crate::modes::want_subs;
+use crate::modes::expect_subs;
 use crate::stops::list_full;
 use crate::stops::misplaced;
 use rules::line::CodeWord;
 use rules::line::Entry;
-use rules::line::Wanted;
+use rules::line::Expected;
 use rules::reading::Mode;
 use rules::reading::OpenBlock;
 use rules::reading::OpenModule;
@@ -14,7 +14,7 @@ use rules::reading::Step;
 ghost use mathlib.Core.Path.{_≡_};
 ghost use Prim.Native.Nat.{_-_, _+_, _<_};
 ghost use Rattle.rules.specs.Reading.{closingStep, countEntry, entryStep, countExternal, externalStep, wordPart, recordDone, parameterStep, subStep};
-ghost use Rattle.rules.specs.declared.line.Wanted.the-variants.{CodeRecord};
+ghost use Rattle.rules.specs.declared.line.Expected.the-variants.{CodeRecord};
 ghost use Rattle.rules.specs.declared.reading.Step.the-variants.{Add};
 
 pub fn closing_step(m: Mode, title: u64) -> Step
@@ -24,7 +24,7 @@ pub fn closing_step(m: Mode, title: u64) -> Step
         let section = m.section;
         return Step::CloseModule(
             Mode {
-                wanted: Wanted::AnyHeader,
+                expected: Expected::AnyHeader,
                 block: OpenBlock {
                     offset: 0,
                     count: 0,
@@ -50,11 +50,11 @@ fn count_entry(m: Mode) -> Mode
     requires { ⌜ m .object .entries < 64 ⌝ }
     ensures { λ r. ⌜ r ≡ countEntry m ⌝ }
 {
-    let wanted = m.wanted;
+    let expected = m.expected;
     let block = m.block;
     let section = m.section;
     Mode {
-        wanted,
+        expected,
         block,
         object: OpenModule {
             inside: m.object.inside,
@@ -71,11 +71,11 @@ fn count_external(m: Mode) -> Mode
     requires { ⌜ m .object .externals < 64 ⌝ }
     ensures { λ r. ⌜ r ≡ countExternal m ⌝ }
 {
-    let wanted = m.wanted;
+    let expected = m.expected;
     let block = m.block;
     let section = m.section;
     Mode {
-        wanted,
+        expected,
         block,
         object: OpenModule {
             inside: m.object.inside,
@@ -93,7 +93,7 @@ pub fn entry_step(m: Mode, e: Entry) -> Step
 {
     if m.object.entries < 64 {
         return Step::Add(
-            record_done(Wanted::EntryRecord, count_entry(m)),
+            record_done(Expected::EntryRecord, count_entry(m)),
             Part::EntryPart(e),
         );
     }
@@ -105,7 +105,7 @@ pub fn external_step(m: Mode, name: u64) -> Step
 {
     if m.object.externals < 64 {
         return Step::Add(
-            record_done(Wanted::ExternalRecord, count_external(m)),
+            record_done(Expected::ExternalRecord, count_external(m)),
             Part::ExternalPart(name),
         );
     }
@@ -127,7 +127,7 @@ pub fn word_step(m: Mode, word: CodeWord) -> Step
 {
     let address = m.block.offset as u32 + less(m.block.count, m.block.remaining) as u32;
     Step::Add(
-        record_done(Wanted::CodeRecord, m),
+        record_done(Expected::CodeRecord, m),
         Part::WordPart { address, word },
     )
 }
@@ -136,9 +136,9 @@ pub fn parameter_step(m: Mode, size: u16) -> Step
     ensures { λ r. ⌜ r ≡ parameterStep m size ⌝ }
 {
     if size == 0 {
-        return Step::Next(record_done(Wanted::ParameterRecord, m));
+        return Step::Next(record_done(Expected::ParameterRecord, m));
     }
-    Step::Next(want_subs(size, m))
+    Step::Next(expect_subs(size, m))
 }
 
 pub fn sub_step(m: Mode) -> Step
@@ -146,7 +146,7 @@ pub fn sub_step(m: Mode) -> Step
 {
     let subs = m.block.subs;
     if subs <= 1 {
-        return Step::Next(record_done(Wanted::ParameterRecord, m));
+        return Step::Next(record_done(Expected::ParameterRecord, m));
     }
-    Step::Next(want_subs(subs - 1, m))
+    Step::Next(expect_subs(subs - 1, m))
 }

@@ -1,4 +1,4 @@
--- `record::fields_say` meets its contract: by whether there is a field, then by what is wanted.
+-- `record::fields_say` meets its contract: by whether there is a field, then by what is expected.
 -- Assumes nothing.
 use mathlib.Core.Path.{_≡_}
 use denote.Ref.{now}
@@ -17,8 +17,8 @@ field-start-requires c κs = search needs
 -- where there is a field, what the fields say is what the line says
 some : (c : tie.Else1) {a : LineAnswer} →
     let x = c .before .before .before .args in
-    a ≡ fieldsSay (x .wanted) (endColumn (x .at) (x .stop)) (lineFields (x .at) (x .stop) (now (x .file))) →
-    a ≡ lineOf (x .wanted) (endColumn (x .at) (x .stop)) (lineFields (x .at) (x .stop) (now (x .file)))
+    a ≡ fieldsSay (x .expected) (endColumn (x .at) (x .stop)) (lineFields (x .at) (x .stop) (now (x .file))) →
+    a ≡ lineOf (x .expected) (endColumn (x .at) (x .stop)) (lineFields (x .at) (x .stop) (now (x .file)))
 some c p = line-fields _ (c .before .before .before .pre) (c .before .field-start .ensures .is) (search needs) p
 
 returns : tie.Need-returns

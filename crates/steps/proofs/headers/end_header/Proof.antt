@@ -9,7 +9,7 @@ want-requires : tie.Need-want-requires
 want-requires c κs = search needs
 
 returns : tie.Need-returns
-returns c = if-true _ (c .before .if1 .taken) (ap Next (c .want .ensures))
+returns c = if-true _ (c .before .if1 .taken) (ap Next (c .expect .ensures))
 
 misplaced-requires : tie.Need-misplaced-requires
 misplaced-requires c κs = search needs
