@@ -8,8 +8,8 @@ use native.Mathlib.Omega.{arith}
 use lib.ListN.{length, getD}
 use lib.Dec.{eqb, leb, ltb}
 use borrow.Author.Tests.{leb-true, le-leb, lt-ltb, ltb-true, eqb-false}
-use Rattle.rules.specs.Text.{Field, fieldsOf, numberOf, nameOf, between, isPacked}
-use Rattle.rules.specs.Line.{nth, Row, headers, rowIn, rowOf, Held, value, wrong, held, inBounds, readField, Fitted, fits, misfit, inFront, fit, Shape, said, readAs, headerShape, sayHeader, rowAt, firstText, headerLine, sameText, markerOf, wordOf, relocationOf, Record, linkedCode, plainCode, relocatedEntry, absoluteEntry, recordShape, starred, codeRecord, isOne, textAt, entryRecord, readRecord, fieldsSay, lineOf, faultWithin, testBytes, lineAnswer}
+use Rattle.rules.specs.Text.{Field, fieldsOf, numberOf, nameOf, between, isPacked, sameText}
+use Rattle.rules.specs.Line.{nth, Row, headers, rowIn, rowOf, Held, value, wrong, held, inBounds, readField, Fitted, fits, misfit, inFront, fit, Shape, said, readAs, headerShape, sayHeader, rowAt, firstText, headerLine, markerOf, wordOf, relocationOf, Record, linkedCode, plainCode, relocatedEntry, absoluteEntry, recordShape, starred, codeRecord, isOne, textAt, entryRecord, readRecord, fieldsSay, lineOf, faultWithin, testBytes, lineAnswer}
 use Rattle.rules.specs.declared.line.FaultKind.{FaultKind}
 use Rattle.rules.specs.declared.line.FaultKind.the-variants.{BadMarker, BadNumber, BadName}
 use Rattle.rules.specs.declared.line.Fault.{Fault}

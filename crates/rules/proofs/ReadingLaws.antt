@@ -10,7 +10,7 @@ use lib.ListN.{length, length-append}
 use lib.Dec.{eqb, leb, ltb}
 use borrow.Author.Tests.{leb-true, leb-false, eqb-true, eqb-false, ltb-true}
 use Rattle.rules.specs.Text.{all, linesOf, isPacked}
-use Rattle.rules.specs.Reading.{mode, openBlock, openModule, openSection, atStart, expect, expectRecords, recordDone, expectSubs, titleHeader, enterModule, leaveModule, enterSection, leaveSection, countEntry, countExternal, titleStep, libraryStep, libraryEndStep, headerStep, closingStep, entryStep, externalStep, parameterStep, subStep, stepOf, stepAt, isHeader, atEnd, onward, readFrom, Module, Item, free, section, moduleAt, moduleDone, gather, itemsFrom, itemsOf}
+use Rattle.rules.specs.Reading.{mode, openBlock, openModule, openSection, atStart, expect, expectRecords, recordDone, expectSubs, titleHeader, enterModule, leaveModule, enterSection, leaveSection, countEntry, countExternal, titleStep, libraryStep, libraryEndStep, headerStep, closingStep, entryStep, externalStep, parameterStep, subStep, stepOf, stepAt, isHeader, atEnd, Module, Item, free, section, moduleAt, itemsOf}
 use Rattle.rules.specs.Placing.{entriesIn, externalsIn, lengthIn, countIn, codeCount}
 use Rattle.rules.specs.declared.line.Entry.{Entry}
 use Rattle.rules.specs.declared.line.CodeWord.{CodeWord}
@@ -30,6 +30,7 @@ use Rattle.rules.specs.declared.reading.Reading.{Reading}
 use Rattle.rules.specs.declared.reading.Reading.the-variants.{Complete, Stopped}
 use Rattle.rules.proofs.TestLaws.{Every, every-add, every-all, and-intro, and-left, and-right}
 use Rattle.rules.proofs.LineLaws.{legalHeader, legalEntry, legalWord, isExpected, expectedNumber, CanSay, bad, blank, head, opening, closing, coded, entered, mentioned, dataRead, initRead, parameter, sub, line-can-say}
+use Rattle.rules.proofs.FoldLaws.{onStep, readFrom, closed, gather, itemsFrom, items-lines}
 use Rattle.rules.proofs.PartLaws.{legalPart, entries-append, externals-append, length-in-append, count-append, PartsSound, no-parts, add-entry, add-external, add-block, add-word}
 
 -- ---- sound modules and items
@@ -385,8 +386,8 @@ module _ (go : Mode → List Part → List Module → List Item)
     (rest : (m : Mode) (ps : List Part) (ms : List Module) → Stands m ps ms → Every ItemSound (go m ps ms)) where
   module-done :
       (t : Bool) (md : Module) (m : Mode) (ms : List Module) → ModuleSound md → Stands m [] (cond t (ms ++ (md ∷ [])) ms)
-      → Every ItemSound (moduleDone t md m ms go)
-  unfolding moduleDone
+      → Every ItemSound (closed t md m ms go)
+  unfolding closed
   module-done true md m ms g i = rest m [] (ms ++ (md ∷ [])) i
   module-done false md m ms g i = (g, rest m [] ms i)
 
@@ -415,8 +416,7 @@ items-from-sound (l ∷ ls) n m ps ms i =
 -- every module of every file has legal parts, at most 64 entries and 64 externals, as many code words as its CODE
 -- headers count, all inside its length; and a section has at most 256 modules
 pub items-sound : (file : List ℕ) → Every ItemSound (itemsOf file)
-unfolding itemsOf
-items-sound file = items-from-sound (linesOf file) 1 atStart [] [] start-stands
+items-sound file = rw items-lines (items-from-sound (linesOf file) 1 atStart [] [] start-stands)
 
 -- the legality of all parts as a test
 unfoldable pub legalModule : Module → Bool
@@ -470,8 +470,8 @@ at-end n (beforeOther {w} i h known l) e =
 step-rest :
     (n : ℕ) (go : Mode → Reading) (end : Mode → Option Mode)
     → ((m : Mode) (ps : List Part) (ms : List Module) → Stands m ps ms → go m ≡ Complete → end m ≡ some atStart)
-    → (a : Step) (ps : List Part) (ms : List Module) → After ps ms a → onward n a go ≡ Complete → afterStep a end ≡ some atStart
-unfolding onward afterStep
+    → (a : Step) (ps : List Part) (ms : List Module) → After ps ms a → onStep n a go ≡ Complete → afterStep a end ≡ some atStart
+unfolding onStep afterStep
 step-rest n go end f (Stop k c) ps ms i e = absurd (stopped e)
 step-rest n go end f (Next m) ps ms i e = f m ps ms i e
 step-rest n go end f (Add m p) ps ms i e = f m (ps ++ (p ∷ [])) ms i e

@@ -7,7 +7,7 @@ use lib.ListN.{length, getD}
 use lib.Dec.{eqb, leb, ltb}
 use Prim.Native.String.{String}
 use Rattle.rules.specs.Limits.{longestLine, largestNumber, mostSubRecords}
-use Rattle.rules.specs.Text.{bytes, Field, fieldsOf, numberOf, nameOf, legalFront, between}
+use Rattle.rules.specs.Text.{bytes, sameText, Field, fieldsOf, numberOf, nameOf, legalFront, between}
 use Rattle.rules.specs.declared.line.FaultKind.{FaultKind}
 use Rattle.rules.specs.declared.line.FaultKind.the-variants.{IllegalByte, BadMarker, FieldCount, BadNumber, BadName, BadType}
 use Rattle.rules.specs.declared.line.Fault.{Fault}
@@ -76,12 +76,6 @@ abbrev pub markerOf : ℕ → List ℕ
 markerOf c = markerIn (rowOf c)
 
 -- ---- fields against the kinds that they have to be
-
-unfoldable pub sameText : List ℕ → List ℕ → Bool
-sameText [] [] = true
-sameText [] (c ∷ cs) = false
-sameText (b ∷ bs) [] = false
-sameText (b ∷ bs) (c ∷ cs) = eqb b c && sameText bs cs
 
 -- a field that is of its kind, with its value, or is not, with the fault
 pub data Held : Type 0 where

@@ -187,7 +187,68 @@ stepOf n m Sub = subStep m
 abbrev pub stepAt : ℕ → Mode → List ℕ → Step
 stepAt n m line = stepOf n m (lineAnswer (m .expected) line)
 
--- ---- the fault of a file
+-- ---- what a file holds
+
+-- a module: the line of its TITLE header and its parts, in file order
+pub record Module : Type 0 where
+  pub line : ℕ
+  pub parts : List Part
+
+-- a free module, or a library section with the line of its LSB header
+pub data Item : Type 0 where
+  free : Module → Item
+  section : ℕ → List Module → Item
+
+abbrev pub moduleAt : ℕ → List Part → Module
+moduleAt n ps = record { line = n; parts = ps }
+
+-- ---- the whole file
+
+-- how far the reading has come: the number of the line that comes next, where it stands, the parts of the open module, the modules
+-- of the open section, the items that are complete; and its fault, Complete while there is none
+pub record ReadSoFar : Type 0 where
+  pub line : ℕ
+  pub mode : Mode
+  pub parts : List Part
+  pub modules : List Module
+  pub items : List Item
+  pub fault : Reading
+
+abbrev pub readSoFar : ℕ → Mode → List Part → List Module → List Item → Reading → ReadSoFar
+readSoFar n m ps ms is f = record { line = n; mode = m; parts = ps; modules = ms; items = is; fault = f }
+
+-- "Lines count from 1"
+unfoldable pub unread : ReadSoFar
+unread = readSoFar 1 atStart [] [] [] Complete
+
+-- on to the next line
+abbrev pub onward : ReadSoFar → Mode → List Part → List Module → List Item → ReadSoFar
+onward r m ps ms is = readSoFar (r .line + 1) m ps ms is Complete
+
+-- a module is complete: one more of the open section, or a free one
+unfoldable pub moduleDone : ReadSoFar → Bool → Mode → Module → ReadSoFar
+moduleDone r true m md = onward r m [] (r .modules ++ (md ∷ [])) (r .items)
+moduleDone r false m md = onward r m [] (r .modules) (r .items ++ (free md ∷ []))
+
+-- what a line's step does
+unfoldable pub stepped : ReadSoFar → Step → ReadSoFar
+stepped r (Stop k c) = readSoFar (r .line) (r .mode) (r .parts) (r .modules) (r .items) (Stopped k (r .line) c)
+stepped r (Next m) = onward r m (r .parts) (r .modules) (r .items)
+stepped r (Add m p) = onward r m (r .parts ++ (p ∷ [])) (r .modules) (r .items)
+stepped r (CloseModule m line) = moduleDone r (m .section .inside) m (moduleAt line (r .parts))
+stepped r (CloseSection m line) = onward r m [] [] (r .items ++ (section line (r .modules) ∷ []))
+
+unfoldable pub ifComplete : {A : Type 0} → Reading → A → A → A
+ifComplete Complete x y = x
+ifComplete (Stopped k n c) x y = y
+
+-- after a fault nothing more is read
+unfoldable pub readLine : ReadSoFar → List ℕ → ReadSoFar
+readLine r l = ifComplete (r .fault) (stepped r (stepAt (r .line) (r .mode) l)) r
+
+unfoldable pub readLines : ReadSoFar → List (List ℕ) → ReadSoFar
+readLines r [] = r
+readLines r (l ∷ ls) = readLines (readLine r l) ls
 
 unfoldable pub isHeader : Expected → Bool
 isHeader AnyHeader = true
@@ -206,53 +267,13 @@ unfoldable pub atEnd : ℕ → Mode → Reading
 atEnd n m =
     cond (isHeader (m .expected) && not (m .object .inside || m .section .inside)) Complete (Stopped PLACE n 0)
 
-unfoldable pub onward : ℕ → Step → (Mode → Reading) → Reading
-onward n (Stop k c) go = Stopped k n c
-onward n (Next m) go = go m
-onward n (Add m p) go = go m
-onward n (CloseModule m line) go = go m
-onward n (CloseSection m line) go = go m
-
--- the lines from line n on, where the reading stands at m
-unfoldable pub readFrom : ℕ → Mode → List (List ℕ) → Reading
-readFrom n m [] = atEnd n m
-readFrom n m (l ∷ ls) = onward n (stepAt n m l) (λ m′. readFrom (n + 1) m′ ls)
+abbrev pub ended : ReadSoFar → Reading
+ended r = ifComplete (r .fault) (atEnd (r .line) (r .mode)) (r .fault)
 
 -- "the whole file is read, and the earliest line with 6, 7 or 8 decides"
 unfoldable pub readingOf : List ℕ → Reading
-readingOf file = readFrom 1 atStart (linesOf file)
+readingOf file = ended (readLines unread (linesOf file))
 
--- ---- what a file holds
-
--- a module: the line of its TITLE header and its parts, in file order
-pub record Module : Type 0 where
-  pub line : ℕ
-  pub parts : List Part
-
--- a free module, or a library section with the line of its LSB header
-pub data Item : Type 0 where
-  free : Module → Item
-  section : ℕ → List Module → Item
-
-abbrev pub moduleAt : ℕ → List Part → Module
-moduleAt n ps = record { line = n; parts = ps }
-
--- a module is complete: one more of the open section, or a free one
-unfoldable pub moduleDone : Bool → Module → Mode → List Module → (Mode → List Part → List Module → List Item) → List Item
-moduleDone true md m ms go = go m [] (ms ++ (md ∷ []))
-moduleDone false md m ms go = free md ∷ go m [] ms
-
-unfoldable pub gather : Step → List Part → List Module → (Mode → List Part → List Module → List Item) → List Item
-gather (Stop k c) ps ms go = []
-gather (Next m) ps ms go = go m ps ms
-gather (Add m p) ps ms go = go m (ps ++ (p ∷ [])) ms
-gather (CloseModule m line) ps ms go = moduleDone (m .section .inside) (moduleAt line ps) m ms go
-gather (CloseSection m line) ps ms go = section line ms ∷ go m [] []
-
--- the lines from line n on, after the parts of the open module and the modules of the open section
-unfoldable pub itemsFrom : ℕ → Mode → List Part → List Module → List (List ℕ) → List Item
-itemsFrom n m ps ms [] = []
-itemsFrom n m ps ms (l ∷ ls) = gather (stepAt n m l) ps ms (λ m′ ps′ ms′. itemsFrom (n + 1) m′ ps′ ms′ ls)
-
+-- what a file holds, or holds up to the line of its fault
 unfoldable pub itemsOf : List ℕ → List Item
-itemsOf file = itemsFrom 1 atStart [] [] (linesOf file)
+itemsOf file = readLines unread (linesOf file) .items
