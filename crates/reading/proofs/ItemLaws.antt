@@ -290,7 +290,7 @@ empty-open parts rows = record { closed = []; last-parts = refl; first-part = re
 pub tables-hold :
     {file lentParts lentRows : List ℕ} {r : FileRead} {parts rows : List ℕ} → ReadInto file lentParts lentRows r parts rows
     → itemsIn parts rows (r .rows) ≡ itemsOf file
-unfolding itemsIn itemsOf tablesOf empty
+unfolding itemsIn tablesOf empty
 tables-hold {file} {lentParts} {lentRows} {r} {parts} {rows} h =
     let final : Final parts rows (tablesOf file) =
     record {

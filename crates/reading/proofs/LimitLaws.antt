@@ -7,7 +7,8 @@ use mathlib.Core.List.{List, [], _∷_}
 use mathlib.Core.Path.{_≡_, refl}
 use lib.ListN.{length}
 use lib.Dec.{eqb, leb, ltb}
-use Rattle.rules.specs.Text.{LF, CR, linesOf, addToLines, startsLF, widenLine, fieldsOf, fieldsFrom, legalFront}
+use Rattle.rules.specs.Text.{LF, CR, linesOf, widenLine, fieldsOf, fieldsFrom, legalFront}
+use Rattle.rules.proofs.LineEndLaws.{startsLF, addToLines, lines-nil, lines-cons}
 use Rattle.rules.specs.Line.{lineAnswer, testBytes, lineOf}
 use Rattle.rules.specs.Reading.{mode, atStart, expect, expectRecords, recordDone, expectSubs, titleHeader, enterModule, leaveModule, enterSection, leaveSection, countEntry, countExternal, titleStep, libraryStep, libraryEndStep, headerStep, closingStep, entryStep, externalStep, parameterStep, subStep, stepOf, stepAt}
 use Rattle.rules.specs.declared.line.Header.{Header}
@@ -47,9 +48,9 @@ add-weight b lf ls k h =
 
 -- only the last line may lack its end
 pub lines-weight : (text : List ℕ) → weight (linesOf text) ≤ length text + 1
-unfolding linesOf weight
-lines-weight [] = omega arith
-lines-weight (b ∷ rest) = omega (arith, add-weight b (startsLF rest) (linesOf rest) (length rest) (lines-weight rest))
+unfolding weight
+lines-weight [] = rw lines-nil (omega arith)
+lines-weight (b ∷ rest) = rw lines-cons (add-weight b (startsLF rest) (linesOf rest) (length rest) (lines-weight rest))
 
 length-weight : (ls : List (List ℕ)) → length ls ≤ weight ls
 unfolding weight

@@ -65,6 +65,10 @@ module _ (b : ℕ) where
         go true e false f = no-end (simp (d, e, f))
         go false e u f = no-end (simp (d, e))
 
+pub lines-nil : linesOf [] ≡ []
+unfolding linesOf cutLines
+lines-nil = refl
+
 pub lines-cons : (b : ℕ) (rest : List ℕ) → linesOf (b ∷ rest) ≡ addToLines b (startsLF rest) (linesOf rest)
 unfolding linesOf addToLines startsLF cutLines widenLine
 lines-cons b [] = go (eqb b LF) refl (eqb b CR)

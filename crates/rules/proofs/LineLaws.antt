@@ -9,7 +9,7 @@ use lib.ListN.{length, getD}
 use lib.Dec.{eqb, leb, ltb}
 use borrow.Author.Tests.{leb-true, le-leb, lt-ltb, ltb-true, eqb-false}
 use Rattle.rules.specs.Text.{Field, fieldsOf, numberOf, nameOf, between, isPacked, sameText}
-use Rattle.rules.specs.Line.{nth, Row, headers, rowIn, rowOf, Held, value, wrong, held, inBounds, readField, Fitted, fits, misfit, inFront, fit, Shape, said, readAs, headerShape, sayHeader, rowAt, firstText, headerLine, markerOf, wordOf, relocationOf, Record, linkedCode, plainCode, relocatedEntry, absoluteEntry, recordShape, starred, codeRecord, isOne, textAt, entryRecord, readRecord, fieldsSay, lineOf, faultWithin, testBytes, lineAnswer}
+use Rattle.rules.specs.Line.{nth, Row, headers, rowIn, rowOf, Held, value, wrong, held, inBounds, readField, Fitted, fits, misfit, inFront, fit, Shape, said, readAs, headerShape, sayHeader, rowAt, firstText, headerLine, markerOf, wordOf, relocationOf, Record, linkedCode, plainCode, relocatedEntry, absoluteEntry, recordShape, starred, readRecord, codeLine, isOne, textAt, entryLine, fieldsSay, lineOf, faultWithin, testBytes, lineAnswer}
 use Rattle.rules.specs.declared.line.FaultKind.{FaultKind}
 use Rattle.rules.specs.declared.line.FaultKind.the-variants.{BadMarker, BadNumber, BadName}
 use Rattle.rules.specs.declared.line.Fault.{Fault}
@@ -262,15 +262,15 @@ either : (w : Expected) (t : Bool) {a b : LineAnswer} → CanSay w a → CanSay 
 either w true p q = p
 either w false p q = q
 
-code-told : (end : ℕ) (fs : List Field) → CanSay CodeRecord (readRecord (codeRecord fs) end fs)
-unfolding codeRecord recordShape legalWord legalRelocation
+code-told : (end : ℕ) (fs : List Field) → CanSay CodeRecord (codeLine end fs)
+unfolding codeLine recordShape legalWord legalRelocation
 code-told end fs =
     cond-cases (λ (r : Record). CanSay CodeRecord (readRecord r end fs)) (starred fs) linkedCode plainCode
     (λ _. shape-told CodeRecord (recordShape linkedCode) (λ vs at. coded (and-intro (word-bound (at 1 .1) (at 2 .1) (at 3 .1) (at 4 .1)) (relocation-legal (nth vs 6) (nth vs 7) (at 6) (bounded (at 7))))) end fs)
     (λ _. shape-told CodeRecord (recordShape plainCode) (λ vs at. coded (and-intro (word-bound (at 0 .1) (at 1 .1) (at 2 .1) (at 3 .1)) refl)) end fs)
 
-entry-told : (end : ℕ) (fs : List Field) → CanSay EntryRecord (readRecord (entryRecord fs) end fs)
-unfolding entryRecord recordShape legalEntry
+entry-told : (end : ℕ) (fs : List Field) → CanSay EntryRecord (entryLine end fs)
+unfolding entryLine recordShape legalEntry
 entry-told end fs =
     cond-cases (λ (r : Record). CanSay EntryRecord (readRecord r end fs)) (isOne (numberOf (textAt fs 2))) relocatedEntry absoluteEntry
     (λ _. shape-told EntryRecord (recordShape relocatedEntry) (λ vs at. entered (and-intro (at 0) (and-intro (bounded (at 1)) (bounded (at 3))))) end fs)

@@ -205,9 +205,12 @@ recordShape subRecord = shape (number ∷ number ∷ []) (λ v. Sub)
 abbrev pub starred : List Field → Bool
 starred fs = sameText (firstText fs) (42 ∷ [])
 
+abbrev pub readRecord : Record → ℕ → List Field → LineAnswer
+readRecord r end fs = readAs (recordShape r) end fs
+
 -- "A code record is four numbers, the quarters; or an asterisk field, four quarters, then 0, type and arg."
-unfoldable pub codeRecord : List Field → Record
-codeRecord fs = cond (starred fs) linkedCode plainCode
+unfoldable pub codeLine : ℕ → List Field → LineAnswer
+codeLine end fs = readRecord (cond (starred fs) linkedCode plainCode) end fs
 
 unfoldable pub isOne : Option ℕ → Bool
 isOne none = false
@@ -218,19 +221,16 @@ unfoldable pub textAt : List Field → ℕ → List ℕ
 textAt fs k = getD fs k (record { column = 0; text = [] }) .text
 
 -- "symbol value 0, or symbol value 1 paramnum"
-unfoldable pub entryRecord : List Field → Record
-entryRecord fs = cond (isOne (numberOf (textAt fs 2))) relocatedEntry absoluteEntry
-
-abbrev pub readRecord : Record → ℕ → List Field → LineAnswer
-readRecord r end fs = readAs (recordShape r) end fs
+unfoldable pub entryLine : ℕ → List Field → LineAnswer
+entryLine end fs = readRecord (cond (isOne (numberOf (textAt fs 2))) relocatedEntry absoluteEntry) end fs
 
 -- what the fields of a line say, by what is expected
 unfoldable pub fieldsSay : Expected → ℕ → List Field → LineAnswer
 fieldsSay AnyHeader end fs = headerLine end fs
 fieldsSay OpeningTitle end fs = readRecord openingTitle end fs
 fieldsSay ClosingTitle end fs = readRecord closingTitle end fs
-fieldsSay CodeRecord end fs = readRecord (codeRecord fs) end fs
-fieldsSay EntryRecord end fs = readRecord (entryRecord fs) end fs
+fieldsSay CodeRecord end fs = codeLine end fs
+fieldsSay EntryRecord end fs = entryLine end fs
 fieldsSay ExternalRecord end fs = readRecord external end fs
 fieldsSay DataRecord end fs = readRecord dataRecord end fs
 fieldsSay InitRecord end fs = readRecord initRecord end fs

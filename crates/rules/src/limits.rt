@@ -22,7 +22,7 @@ pub const MOST_MODULES: u16 = 256;
 // Of a number in a file: its octal digits, and its value.
 pub const MOST_DIGITS: usize = 6;
 
-pub const LARGEST_NUMBER: u16 = 0o177777;
+pub const LARGEST_NUMBER: u32 = 0o177777;
 
 // Characters of a name.
 pub const LONGEST_NAME: usize = 6;

@@ -3,6 +3,7 @@ use crate::modes::expect;
 use crate::modes::expect_records;
 use crate::stops::list_full;
 use crate::stops::misplaced;
+use rules::limits::MOST_MODULES;
 use rules::line::Header;
 use rules::line::Expected;
 use rules::reading::Mode;
@@ -50,7 +51,7 @@ fn title_step(n: u32, m: Mode) -> Step
     if !m.section.inside {
         return Step::Next(title_header(n, modules, m));
     }
-    if 256 <= modules {
+    if MOST_MODULES <= modules {
         return list_full();
     }
     Step::Next(title_header(n, modules + 1, m))

@@ -8,6 +8,8 @@ use crate::records::external_step;
 use crate::records::parameter_step;
 use crate::records::sub_step;
 use crate::records::word_step;
+use rules::answer::LINE;
+use rules::answer::PLACE;
 use rules::line::LineAnswer;
 use rules::line::Expected;
 use rules::reading::Mode;
@@ -22,7 +24,7 @@ pub fn step_of(n: u32, m: Mode, answer: LineAnswer) -> Step
 {
     match answer {
         LineAnswer::Bad(f) => Step::Stop {
-            number: 6,
+            number: LINE,
             column: f.column,
         },
         LineAnswer::Blank => Step::Next(m),
@@ -46,7 +48,7 @@ pub fn at_end(n: u32, m: Mode) -> Reading
     ensures { λ r. ⌜ r ≡ atEnd n m ⌝ }
 {
     let cut = Reading::Stopped {
-        number: 7,
+        number: PLACE,
         line: n,
         column: 0,
     };

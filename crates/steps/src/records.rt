@@ -3,6 +3,8 @@ use crate::modes::record_done;
 use crate::modes::expect_subs;
 use crate::stops::list_full;
 use crate::stops::misplaced;
+use rules::limits::MOST_ENTRIES;
+use rules::limits::MOST_EXTERNALS;
 use rules::line::CodeWord;
 use rules::line::Entry;
 use rules::line::Expected;
@@ -13,6 +15,7 @@ use rules::reading::Part;
 use rules::reading::Step;
 ghost use mathlib.Core.Path.{_≡_};
 ghost use Prim.Native.Nat.{_-_, _+_, _<_};
+ghost use Rattle.rules.specs.Limits.{mostEntries, mostExternals};
 ghost use Rattle.rules.specs.Reading.{closingStep, countEntry, entryStep, countExternal, externalStep, wordPart, recordDone, parameterStep, subStep};
 ghost use Rattle.rules.specs.declared.line.Expected.the-variants.{CodeRecord};
 ghost use Rattle.rules.specs.declared.reading.Step.the-variants.{Add};
@@ -47,7 +50,7 @@ pub fn closing_step(m: Mode, title: u64) -> Step
 }
 
 fn count_entry(m: Mode) -> Mode
-    requires { ⌜ m .object .entries < 64 ⌝ }
+    requires { ⌜ m .object .entries < mostEntries ⌝ }
     ensures { λ r. ⌜ r ≡ countEntry m ⌝ }
 {
     let expected = m.expected;
@@ -68,7 +71,7 @@ fn count_entry(m: Mode) -> Mode
 }
 
 fn count_external(m: Mode) -> Mode
-    requires { ⌜ m .object .externals < 64 ⌝ }
+    requires { ⌜ m .object .externals < mostExternals ⌝ }
     ensures { λ r. ⌜ r ≡ countExternal m ⌝ }
 {
     let expected = m.expected;
@@ -91,7 +94,7 @@ fn count_external(m: Mode) -> Mode
 pub fn entry_step(m: Mode, e: Entry) -> Step
     ensures { λ r. ⌜ r ≡ entryStep m e ⌝ }
 {
-    if m.object.entries < 64 {
+    if m.object.entries < MOST_ENTRIES {
         return Step::Add(
             record_done(Expected::EntryRecord, count_entry(m)),
             Part::EntryPart(e),
@@ -103,7 +106,7 @@ pub fn entry_step(m: Mode, e: Entry) -> Step
 pub fn external_step(m: Mode, name: u64) -> Step
     ensures { λ r. ⌜ r ≡ externalStep m name ⌝ }
 {
-    if m.object.externals < 64 {
+    if m.object.externals < MOST_EXTERNALS {
         return Step::Add(
             record_done(Expected::ExternalRecord, count_external(m)),
             Part::ExternalPart(name),

@@ -13,5 +13,5 @@ returns : tie.Need-returns
 unfolding expect
 returns c = c .with-block .ensures
 
-pub want-spec : {M : Type 1} → statement M
-want-spec = tie.close (tie.spec with-block-requires returns)
+pub expect-spec : {M : Type 1} → statement M
+expect-spec = tie.close (tie.spec with-block-requires returns)

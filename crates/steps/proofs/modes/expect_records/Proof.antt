@@ -21,6 +21,6 @@ returns-2 : tie.Need-returns-2
 unfolding expectRecords
 returns-2 c = rw (ne-eqb _ _ (c .before .if1 .left)) (c .with-block2 .ensures)
 
-pub want-records-spec : {M : Type 1} → statement M
-want-records-spec =
+pub expect-records-spec : {M : Type 1} → statement M
+expect-records-spec =
     tie.close (tie.spec with-block-requires returns with-block-requires-2 returns-2)

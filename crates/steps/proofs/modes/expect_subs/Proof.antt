@@ -13,5 +13,5 @@ returns : tie.Need-returns
 unfolding expectSubs
 returns c = c .with-block .ensures
 
-pub want-subs-spec : {M : Type 1} → statement M
-want-subs-spec = tie.close (tie.spec with-block-requires returns)
+pub expect-subs-spec : {M : Type 1} → statement M
+expect-subs-spec = tie.close (tie.spec with-block-requires returns)

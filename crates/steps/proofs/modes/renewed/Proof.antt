@@ -5,12 +5,12 @@ use Rattle.rules.specs.Reading.{expect}
 use Rattle.steps.proofs.modes.renewed.Statement.{statement}
 use Rattle.steps.proofs.modes.renewed.Tie as tie
 
-want-requires : tie.Need-want-requires
-want-requires c κs = search needs
+expect-requires : tie.Need-expect-requires
+expect-requires c κs = search needs
 
 returns : tie.Need-returns
 unfolding expect
 returns c = c .expect .ensures
 
 pub renewed-spec : {M : Type 1} → statement M
-renewed-spec = tie.close (tie.spec want-requires returns)
+renewed-spec = tie.close (tie.spec expect-requires returns)
