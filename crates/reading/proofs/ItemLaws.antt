@@ -303,3 +303,4 @@ tables-hold {file} {lentParts} {lentRows} {r} {parts} {rows} h =
     } in
     items-from parts rows (linesOf file) 1 atStart empty [] [] start-stands (empty-open parts rows) final (r .rows)
     (omega (arith, h .rows))
+    ∙ sym (items-lines file)

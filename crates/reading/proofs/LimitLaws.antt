@@ -4,7 +4,7 @@ use Prim.Native.Nat.{ℕ, _+_, _-_, _*_, _≤_}
 use native.Mathlib.Omega.{arith}
 use mathlib.Core.Bool.{Bool, true, false, cond, not, _&&_, _||_, or-true}
 use mathlib.Core.List.{List, [], _∷_}
-use mathlib.Core.Path.{_≡_, refl}
+use mathlib.Core.Path.{_≡_, refl, ap}
 use lib.ListN.{length}
 use lib.Dec.{eqb, leb, ltb}
 use Rattle.rules.specs.Text.{LF, CR, linesOf, widenLine, fieldsOf, fieldsFrom, legalFront}
@@ -50,7 +50,8 @@ add-weight b lf ls k h =
 pub lines-weight : (text : List ℕ) → weight (linesOf text) ≤ length text + 1
 unfolding weight
 lines-weight [] = rw lines-nil (omega arith)
-lines-weight (b ∷ rest) = rw lines-cons (add-weight b (startsLF rest) (linesOf rest) (length rest) (lines-weight rest))
+lines-weight (b ∷ rest) =
+    omega (arith, ap weight (lines-cons b rest), add-weight b (startsLF rest) (linesOf rest) (length rest) (lines-weight rest))
 
 length-weight : (ls : List (List ℕ)) → length ls ≤ weight ls
 unfolding weight

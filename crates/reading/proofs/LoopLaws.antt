@@ -54,7 +54,7 @@ module _ (file lentParts lentRows : List ℕ) where
   pub start :
       {m : Mode} {f : Filled} → Lent file lentParts lentRows → m ≡ atStart → f ≡ filledOf empty
       → Before lentParts lentRows m f 1 0
-  unfolding readingOf tablesOf empty cellsOf used
+  unfolding tablesOf empty cellsOf used
   start {m} {f} l d e =
       record {
         here = empty;
@@ -64,7 +64,7 @@ module _ (file lentParts lentRows : List ℕ) where
         part-size = l .part-room;
         row-size = l .row-room;
         begun = empty-begun;
-        reading = ap (λ (k : Mode). readFrom 1 k (linesOf file)) d;
+        reading = ap (λ (k : Mode). readFrom 1 k (linesOf file)) d ∙ sym (reading-lines file);
         tables = ap (λ (k : Mode). tablesFrom 1 k empty (linesOf file)) d;
         room = omega (arith, lines-weight file, ap pending d ∙ start-pending);
         numbered = omega arith;

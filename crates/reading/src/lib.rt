@@ -26,7 +26,7 @@ pub struct FileRead {
 }
 
 // A fault at line n.
-fn stopped(number: u16, n: u32, column: usize, filled: Filled) -> FileRead
+fn stopped(number: u64, n: u32, column: usize, filled: Filled) -> FileRead
     ensures { λ r. ⌜ r ≡ fileRead (Stopped number n column) filled ⌝ }
 {
     FileRead {
