@@ -1,18 +1,31 @@
 // END's output: a record for each placed word, then the end record.
-use state::header::next_address;
-use state::table::symbol_at;
+use rules::limits::PROGRAM_WORDS;
+use state::header::high;
+use state::layout::PLAIN;
+use state::layout::REFERENCE;
+use state::layout::UNPLACED;
 use state::table::undefined_count;
+use state::table::value_of;
 use state::words::tag;
 use state::words::text;
 ghost use mathlib.Core.List.{_∷_};
 ghost use mathlib.Core.Path.{_≡_};
 ghost use Prim.Native.Nat.{_+_, _≤_, _<_};
 ghost use lib.ListN.{length, getD};
-ghost use Rattle.rules.specs.State.{high as high-in, placedWords, unplaced};
-ghost use Rattle.rules.specs.Image.{two, quarters, wordRecord, endRecord, valueOf, completed, imageOf};
+ghost use Rattle.rules.specs.Limits.{programWords};
+ghost use Rattle.rules.specs.Image.{two, quarters, wordRecord, completed, imageOf};
 ghost use Rattle.state.specs.Layout.{decode};
 ghost use Rattle.state.specs.Good.{Good};
 ghost use Rattle.image.specs.Output.{overlay, endBytes, recordAt, wordsOf, Written, PlacedTag};
+
+// The kinds of records, and their lengths.
+const WORD_RECORD: u8 = 0x57;
+
+const WORD_BYTES: usize = 11;
+
+const END_RECORD: u8 = 0x45;
+
+const END_BYTES: usize = 5;
 
 // A word's four quarters, the high bytes first. The eight bytes stand alone in a function, so that the compiler makes one store of
 // them.
@@ -35,7 +48,7 @@ fn put_head(out: &mut [u8], at: usize, address: u64)
     requires { ⌜ at + 3 ≤ length (now out) ⌝ }
     ensures { λ r. ⌜ now (out .exit) ≡ overlay at (0x57 ∷ two address) (now (out .entry)) ⌝ }
 {
-    out[at] = 0x57;
+    out[at] = WORD_RECORD;
     out[at + 1] = (address / 256 % 256) as u8;
     out[at + 2] = (address % 256) as u8;
 }
@@ -54,21 +67,11 @@ fn put_end(out: &mut [u8], at: usize, high: u64, undefined: u64)
     requires { ⌜ at + 5 ≤ length (now out) ⌝ }
     ensures { λ r. ⌜ now (out .exit) ≡ overlay at (endBytes high undefined) (now (out .entry)) ⌝ }
 {
-    out[at] = 0x45;
+    out[at] = END_RECORD;
     out[at + 1] = (high / 256 % 256) as u8;
     out[at + 2] = (high % 256) as u8;
     out[at + 3] = (undefined / 256 % 256) as u8;
     out[at + 4] = (undefined % 256) as u8;
-}
-
-// A symbol's value, 0 if it is undefined.
-fn value_of(state: &[u64], symbol: usize) -> u16
-    requires { ⌜ Good (now state) ⌝ }
-    requires { ⌜ symbol < length (decode (now state) .symbols) ⌝ }
-    ensures { λ r. ⌜ r ≡ valueOf (decode (now (state .entry)) .symbols) symbol ⌝ }
-{
-    let s = symbol_at(state, symbol);
-    (s.value % 65536) as u16
 }
 
 // The text with a value added to its fourth quarter, modulo 65,536.
@@ -82,29 +85,29 @@ fn complete(text: u64, value: u16) -> u64
 // A placed word as the image has it, from its tag.
 fn linked_word(state: &[u64], address: usize, tag: u64) -> u64
     requires { ⌜ Good (now state) ⌝ }
-    requires { ⌜ (address < 4096) × PlacedTag (decode (now state)) address tag ⌝ }
+    requires { ⌜ (address < programWords) × PlacedTag (decode (now state)) address tag ⌝ }
     ensures { λ r. ⌜ recordAt (decode (now (state .entry))) address ≡ wordRecord address r ⌝ }
 {
     let t = text(state, address);
-    if tag == 1 {
+    if tag == PLAIN {
         return t;
     }
-    complete(t, value_of(state, (tag - 2) as usize))
+    complete(t, value_of(state, (tag - REFERENCE) as usize))
 }
 
 // The record of an address, if a word is placed there; the answer is the position behind it.
 fn put_record(state: &[u64], address: usize, out: &mut [u8], at: usize) -> usize
     requires { ⌜ Good (now state) ⌝ }
-    requires { ⌜ (address < 4096) × (at + length (recordAt (decode (now state)) address) ≤ length (now out)) ⌝ }
+    requires { ⌜ (address < programWords) × (at + length (recordAt (decode (now state)) address) ≤ length (now out)) ⌝ }
     ensures { λ r. ⌜ Written at (recordAt (decode (now (state .entry))) address) (now (out .entry)) (now (out .exit)) r ⌝ }
 {
     let t = tag(state, address);
-    if t == 0 {
+    if t == UNPLACED {
         return at;
     }
     let word = linked_word(state, address, t);
     put_word(out, at, address as u64, word);
-    at + 11
+    at + WORD_BYTES
 }
 
 // The records of all placed words, addresses rising; the answer is their length.
@@ -115,7 +118,7 @@ fn write_words(state: &[u64], out: &mut [u8]) -> usize
 {
     let mut at = 0;
     let mut a = 0;
-    while a < 4096 {
+    while a < PROGRAM_WORDS {
         at = put_record(state, a, out, at);
         a += 1;
     }
@@ -127,27 +130,15 @@ pub fn image_length(state: &[u64]) -> usize
     requires { ⌜ Good (now state) ⌝ }
     ensures { λ r. ⌜ r ≡ length (imageOf (decode (now (state .entry)))) ⌝ }
 {
-    let mut n = 5;
+    let mut n = END_BYTES;
     let mut a = 0;
-    while a < 4096 {
-        if tag(state, a) != 0 {
-            n += 11;
+    while a < PROGRAM_WORDS {
+        if tag(state, a) != UNPLACED {
+            n += WORD_BYTES;
         }
         a += 1;
     }
     n
-}
-
-// HIGH: the next address less one, 65,535 when that address is 0.
-pub fn high(state: &[u64]) -> u64
-    requires { ⌜ Good (now state) ⌝ }
-    ensures { λ r. ⌜ r ≡ high-in (decode (now (state .entry))) ⌝ }
-{
-    let next = next_address(state);
-    if next == 0 {
-        return 65535;
-    }
-    (next - 1) as u64
 }
 
 // The image, at the front of the output; all bytes past it stay. The answer is its length.
@@ -159,5 +150,5 @@ pub fn write_image(state: &[u64], out: &mut [u8]) -> usize
     let n = write_words(state, out);
     let undefined = undefined_count(state);
     put_end(out, n, high(state), undefined as u64);
-    n + 5
+    n + END_BYTES
 }

@@ -16,9 +16,9 @@ use Rattle.rules.specs.Placing.{twice, entriesIn}
 use Rattle.rules.specs.Load.{entryNames, sectionNames}
 use Rattle.rules.proofs.BoolLaws.{never, or-on, any-append, eqb-same}
 use Rattle.tables.specs.Tables.{headIn, bodyIn, startIn, endIn, cellsIn, moduleIn, modulesIn}
-use Rattle.parts.specs.Cells.{partsFrom, isEntry}
-use Rattle.parts.specs.Passes.{namesIn}
-use Rattle.parts.proofs.CellLaws.{parts-done}
+use Rattle.tables.specs.Heads.{partsFrom, isEntry}
+use Rattle.tables.specs.Heads.{namesIn}
+use Rattle.tables.proofs.HeadLaws.{parts-done}
 use Rattle.parts.proofs.PassLaws.{names-next}
 use Rattle.index.specs.Index.{size, countOf, nameAt, ownerAt, lastWhere, namedBelow, named, holds, Indexed, Found, Added, PartAdded, namesFrom, Owner, Owns, clash, Filled, ModuleAdded, Cleared, Tested}
 use Rattle.index.proofs.LastLaws.{last-most, last-same, last-next}

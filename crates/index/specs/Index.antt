@@ -10,7 +10,7 @@ use Rattle.rules.specs.Text.{any}
 use Rattle.rules.specs.Placing.{twice}
 use Rattle.rules.specs.Load.{entryNames, sectionNames}
 use Rattle.tables.specs.Tables.{headIn, bodyIn, moduleIn, modulesIn}
-use Rattle.parts.specs.Cells.{isEntry}
+use Rattle.tables.specs.Heads.{isEntry}
 
 -- ---- the cells
 

@@ -12,7 +12,7 @@ ghost use mathlib.Core.Path.{_≡_};
 ghost use lib.ListN.{length, getD};
 ghost use Rattle.rules.specs.Load.{entryNames};
 ghost use Rattle.tables.specs.Tables.{headIn, moduleIn};
-ghost use Rattle.parts.specs.Cells.{isEntry};
+ghost use Rattle.tables.specs.Heads.{isEntry};
 ghost use Rattle.index.specs.Index.{size, countOf, slotOf, ownerAt, Indexed, Found, Added, PartAdded, Filled, ModuleAdded, Cleared, Tested};
 
 // The first cell of the entries: behind the count and the slots.

@@ -19,10 +19,10 @@ use Rattle.tables.specs.Tables.{low16}
 use Rattle.state.specs.Layout.{decode}
 use Rattle.state.specs.Good.{Good, Holds}
 use Rattle.state.specs.Table.{Joined}
-use Rattle.parts.specs.Cells.{partsFrom, isEntry, entryOf, valueOf, isOver}
-use Rattle.parts.specs.Passes.{overRange, repeated, namesIn}
-use Rattle.parts.proofs.CellLaws.{parts-done, parts-next, entries-cons}
-use Rattle.parts.proofs.PassLaws.{over-turn}
+use Rattle.tables.specs.Heads.{partsFrom, namesIn, isEntry, isRelocated, entryOf, valueOf}
+use Rattle.placing.specs.Passes.{overRange, isOver, repeated}
+use Rattle.tables.proofs.HeadLaws.{parts-done, parts-next, entries-cons}
+use Rattle.placing.proofs.PassLaws.{over-turn}
 use Rattle.placing.specs.Effects.{entered, enteringFault, Entered, Entering, EnteredPart}
 
 -- ---- a name that is defined, or becomes defined, is a second one from there on
@@ -66,7 +66,7 @@ a-fault false e = omega arith
 value-fits : (base h : ℕ) → isOver base h ≡ false → valueOf base h ≤ 65535
 unfolding isOver valueOf
 value-fits base h e =
-    cond-cases (λ v. v ≤ 65535) (eqb (h % 8) 2) _ _
+    cond-cases (λ v. v ≤ 65535) (isRelocated h) _ _
     (λ q. ltb-false 65535 (low16 (h / 8) + base) (rw q at e))
     (λ q. omega arith)
 

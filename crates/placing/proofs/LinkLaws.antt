@@ -12,55 +12,56 @@ use lib.Dec.{eqb, ltb}
 use borrow.Author.Tests.{eqb-false, ltb-false, ltb-true}
 use Rattle.rules.specs.Text.{any}
 use Rattle.rules.specs.State.{Symbol, nameIs, isSymbol, positionOf, Word, unplaced, plain, refers, isPlaced}
-use Rattle.rules.specs.Placing.{Code, externalName, mention, mentionAll, linked, putAll, clash, badArgument}
+use Rattle.rules.specs.Placing.{Code, externalName, mention, mentionAll, linked, putAll, badArgument}
+use Rattle.rules.proofs.OverlapLaws.{clash}
 use Rattle.rules.specs.declared.line.Relocation.{Relocation}
 use Rattle.rules.specs.declared.line.Relocation.the-variants.{Plain, External, Unread}
 use Rattle.rules.proofs.BoolLaws.{cond-cases, never, or-off, eqb-same}
 use Rattle.rules.proofs.TableLaws.{symbol-mention, symbol-mentionAll}
 use Rattle.rules.proofs.SoundLaws.{place-below}
 use Rattle.rules.proofs.TestLaws.{none-first, none-rest}
-use Rattle.parts.specs.Passes.{badCode}
+use Rattle.placing.specs.Passes.{badCode}
 use Rattle.placing.specs.Effects.{plainAll, relink, linkAt, positionsOf}
 use Rattle.placing.proofs.WordLaws.{clash-cons}
 
 -- ---- a place does not move when the table grows
 
-place-new : (x : ℕ) (t : List Symbol) → positionOf x (mention x t) ≡ positionOf x t
+position-new : (x : ℕ) (t : List Symbol) → positionOf x (mention x t) ≡ positionOf x t
 unfolding positionOf mention
-place-new x [] = rw (eqb-same x)
-place-new x (s ∷ t) =
-    cond-cases (λ r. positionOf x r ≡ positionOf x (s ∷ t)) (nameIs x s) _ _ (λ _. refl) (λ e. rw (e, place-new x t))
+position-new x [] = rw (eqb-same x)
+position-new x (s ∷ t) =
+    cond-cases (λ r. positionOf x r ≡ positionOf x (s ∷ t)) (nameIs x s) _ _ (λ _. refl) (λ e. rw (e, position-new x t))
 
-place-stays : (x y : ℕ) (t : List Symbol) → isSymbol x t ≡ true → positionOf x (mention y t) ≡ positionOf x t
+position-stays : (x y : ℕ) (t : List Symbol) → isSymbol x t ≡ true → positionOf x (mention y t) ≡ positionOf x t
 unfolding positionOf mention isSymbol any
-place-stays x y [] h = never h refl
-place-stays x y (s ∷ t) h =
-    cond-cases (λ r. positionOf x r ≡ positionOf x (s ∷ t)) (nameIs y s) _ _ (λ _. refl) (λ _. go (nameIs x s) h (place-stays x y t))
+position-stays x y [] h = never h refl
+position-stays x y (s ∷ t) h =
+    cond-cases (λ r. positionOf x r ≡ positionOf x (s ∷ t)) (nameIs y s) _ _ (λ _. refl) (λ _. go (nameIs x s) h (position-stays x y t))
   where
     go : (b : Bool) → (b || isSymbol x t) ≡ true → (isSymbol x t ≡ true → positionOf x (mention y t) ≡ positionOf x t) →
         cond b 0 (positionOf x (mention y t) + 1) ≡ cond b 0 (positionOf x t + 1)
     go true h f = refl
     go false h f = ap (λ k. k + 1) (f h)
 
-places-stay : (x : ℕ) (xs : List ℕ) (t : List Symbol) → isSymbol x t ≡ true → positionOf x (mentionAll xs t) ≡ positionOf x t
+positions-stay : (x : ℕ) (xs : List ℕ) (t : List Symbol) → isSymbol x t ≡ true → positionOf x (mentionAll xs t) ≡ positionOf x t
 unfolding mentionAll
-places-stay x [] t h = refl
-places-stay x (y ∷ xs) t h =
-    places-stay x xs (mention y t) (symbol-mention x y t ∙ rw h (or-true (eqb y x))) ∙ place-stays x y t h
+positions-stay x [] t h = refl
+positions-stay x (y ∷ xs) t h =
+    positions-stay x xs (mention y t) (symbol-mention x y t ∙ rw h (or-true (eqb y x))) ∙ position-stays x y t h
 
-pub places-map : (xs : List ℕ) (t : List Symbol) → positionsOf xs t ≡ map (λ x. positionOf x (mentionAll xs t)) xs
+pub positions-map : (xs : List ℕ) (t : List Symbol) → positionsOf xs t ≡ map (λ x. positionOf x (mentionAll xs t)) xs
 unfolding positionsOf mentionAll
-places-map [] t = refl
-places-map (x ∷ xs) t =
+positions-map [] t = refl
+positions-map (x ∷ xs) t =
     let there : isSymbol x (mention x t) ≡ true = symbol-mention x x t ∙ rw (eqb-same x) in
-    ap₂ _∷_ (sym (places-stay x xs (mention x t) there ∙ place-new x t)) (places-map xs (mention x t))
+    ap₂ _∷_ (sym (positions-stay x xs (mention x t) there ∙ position-new x t)) (positions-map xs (mention x t))
 
 -- what stands at place k, for the externals of a module that joined
 module _ (xs : List ℕ) (t : List Symbol) (at : List ℕ) (e : take (length xs) at ≡ positionsOf xs t) (k : ℕ) (h : k < length xs) where
-  pub place-at : getD at k 0 ≡ positionOf (getD xs k 0) (mentionAll xs t)
-  place-at =
+  pub position-at : getD at k 0 ≡ positionOf (getD xs k 0) (mentionAll xs t)
+  position-at =
       sym (getD-take (length xs) at k 0 h)
-      ∙ ap (λ l. getD l k 0) (e ∙ places-map xs t)
+      ∙ ap (λ l. getD l k 0) (e ∙ positions-map xs t)
       ∙ map-at xs k h (λ x. positionOf x (mentionAll xs t))
     where
       map-at : (xs : List ℕ) (k : ℕ) → k < length xs → (f : ℕ → ℕ) → getD (map f xs) k 0 ≡ f (getD xs k 0)
@@ -68,12 +69,12 @@ module _ (xs : List ℕ) (t : List Symbol) (at : List ℕ) (e : take (length xs)
       map-at (x ∷ xs) zero h f = refl
       map-at (x ∷ xs) (suc k) h f = map-at xs k (le-of-suc-le-suc h) f
 
-  pub place-there : getD at k 0 < length (mentionAll xs t)
+  pub position-there : getD at k 0 < length (mentionAll xs t)
   unfolding any
-  place-there =
+  position-there =
       let x : ℕ = getD xs k 0 in
       let there : isSymbol x (mentionAll xs t) ≡ true = symbol-mentionAll x xs t ∙ rw (any-here xs k h) in
-      subst (λ p. p < length (mentionAll xs t)) (sym place-at) (place-below x (mentionAll xs t) there)
+      subst (λ p. p < length (mentionAll xs t)) (sym position-at) (place-below x (mentionAll xs t) there)
     where
       any-here : (xs : List ℕ) (k : ℕ) → k < length xs → any (eqb (getD xs k 0)) xs ≡ true
       any-here [] k h = absurd (not-suc-le-zero h)

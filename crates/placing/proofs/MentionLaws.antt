@@ -1,4 +1,4 @@
--- The pass over the externals: each turn in the words of the code, and the places that it remembers.
+-- The pass over the externals: each turn in the words of the code, and the positions that it remembers.
 use Prim.Native.Nat.{ℕ, _+_, _-_, _%_, _<_, _≤_}
 use native.Mathlib.Numerals.{add-one}
 use native.Mathlib.Omega.{arith}
@@ -18,8 +18,8 @@ use Rattle.rules.proofs.SoundLaws.{mentionAll-longer}
 use Rattle.state.specs.Layout.{decode}
 use Rattle.state.specs.Good.{Good, Holds}
 use Rattle.state.specs.Table.{Joined, MentionedAt}
-use Rattle.parts.specs.Cells.{partsFrom, isExternal}
-use Rattle.parts.proofs.CellLaws.{parts-done, parts-next, externals-cons}
+use Rattle.tables.specs.Heads.{partsFrom, isExternal}
+use Rattle.tables.proofs.HeadLaws.{parts-done, parts-next, externals-cons}
 use Rattle.placing.specs.Effects.{mentioned, positionsOf, Mentioned, Mentioning}
 use Rattle.placing.specs.declared.symbols.Mentions.{Mentions}
 
@@ -38,24 +38,24 @@ module _ (whole : List ℕ) (s₀ : State) (at : List ℕ) (n : ℕ) where
     externals-next : externalsIn (partsFrom cells i) ≡ cond (isExternal head) (body ∷ rest) rest
     externals-next = ap externalsIn (parts-next cells i h) ∙ externals-cons head body (partsFrom cells (i + 2))
 
-    pub mention-skip : head % 8 ≢ 3 → Mentioning whole s₀ n at rest s
+    pub mention-skip : isExternal head ≡ false → Mentioning whole s₀ n at rest s
     mention-skip k =
-        subst (λ xs. Mentioning whole s₀ n at xs s) (externals-next ∙ rw (ne-eqb (head % 8) 3 k)) l
+        subst (λ xs. Mentioning whole s₀ n at xs s) (externals-next ∙ rw k) l
 
-    module _ (k : head % 8 ≡ 3) where
+    module _ (k : isExternal head ≡ true) where
       here : Mentioning whole s₀ n at (body ∷ rest) s
-      here = subst (λ xs. Mentioning whole s₀ n at xs s) (externals-next ∙ rw (eq-eqb (head % 8) 3 k)) l
+      here = subst (λ xs. Mentioning whole s₀ n at xs s) (externals-next ∙ rw k) l
 
       pub mention-index : length whole ≤ 64 → n < 64
       mention-index m = omega (arith, here .count)
 
-      module _ {place : ℕ} {after : List ℕ} (m : MentionedAt body s place after) where
+      module _ {position : ℕ} {after : List ℕ} (m : MentionedAt body s position after) where
         -- the table afterwards, as the rest goes on from it
         whole-is : mentionAll whole (s₀ .symbols) ≡ mentionAll rest (mention body (s .symbols))
         unfolding mentionAll
         whole-is = sym (ap (λ (v : State). v .symbols) (here .mentioned-is))
 
-        pub mention-full : place ≡ 256 → Mentioned whole s₀ (record { room = false; at = at }) after
+        pub mention-full : position ≡ 256 → Mentioned whole s₀ (record { room = false; at = at }) after
         mention-full e =
             let t = mention body (s .symbols) in
             let no-room : leb (length t) 256 ≡ false = sym (m .joined .room) ∙ ap (λ p. ltb p 256) e in
@@ -65,26 +65,26 @@ module _ (whole : List ℕ) (s₀ : State) (at : List ℕ) (n : ℕ) where
               room-is = sym (rw whole-is (lt-leb (length (mentionAll rest t)) 256 long));
               good = m .joined .holds .good;
               done = λ z. never z refl;
-              places = λ z. never z refl;
+              positions = λ z. never z refl;
             }
 
-        pub mention-put : length whole ≤ 64 → place ≢ 256 → Mentioning whole s₀ (n + 1) (set at n place) rest (decode after)
+        pub mention-put : length whole ≤ 64 → position ≢ 256 → Mentioning whole s₀ (n + 1) (set at n position) rest (decode after)
         unfolding positionsOf mentionAll
         mention-put few e =
             let t = mention body (s .symbols) in
-            let room : leb (length t) 256 ≡ true = sym (m .joined .room) ∙ lt-ltb place 256 (omega (arith, m .most)) in
+            let room : leb (length t) 256 ≡ true = sym (m .joined .room) ∙ lt-ltb position 256 (omega (arith, m .most)) in
             let is : decode after ≡ withSymbols t s = m .joined .holds .is ∙ rw room in
             let inside : n < length at = omega (arith, mention-index few, l .long) in
             record {
-              long = length-set at n place ∙ l .long;
+              long = length-set at n position ∙ l .long;
               count = omega (arith, here .count);
-              places =
+              positions =
                   ap₂ _++_
-                  (ap (λ k. take k (set at n place)) (add-one n) ∙ take-suc-set at n place inside)
+                  (ap (λ k. take k (set at n position)) (add-one n) ∙ take-suc-set at n position inside)
                   (ap (λ (v : State). positionsOf rest (v .symbols)) is)
-                  ∙ append-assoc (take n at) (place ∷ []) (positionsOf rest t)
+                  ∙ append-assoc (take n at) (position ∷ []) (positionsOf rest t)
                   ∙ ap (λ p. take n at ++ (p ∷ positionsOf rest t)) (m .is)
-                  ∙ here .places;
+                  ∙ here .positions;
               mentioned-is = ap (mentioned rest) is ∙ here .mentioned-is;
             }
 
@@ -101,5 +101,5 @@ module _ (whole : List ℕ) (s₀ : State) (at : List ℕ) (n : ℕ) where
         room-is = sym (ap (λ t. leb (length t) 256) (sym table) ∙ le-leb (length (decode state .symbols)) 256 (g .tidy .few));
         good = g;
         done = λ _. e .mentioned-is;
-        places = λ _. ap (λ k. take k at) (sym all-of-them) ∙ sym (append-nil (take n at)) ∙ e .places;
+        positions = λ _. ap (λ k. take k at) (sym all-of-them) ∙ sym (append-nil (take n at)) ∙ e .positions;
       }

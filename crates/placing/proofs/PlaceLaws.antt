@@ -7,20 +7,25 @@ use mathlib.Core.Logic.{_≢_}
 use mathlib.Core.Path.{_≡_, refl, sym, ap, ap₂, subst, _∙_}
 use lib.ListN.{length, getD, take}
 use lib.Dec.{ltb, leb}
-use borrow.Author.Tests.{lt-ltb, le-ltb, leb-true, leb-false, ltb-true, not-true, not-false}
-use Rattle.rules.specs.Text.{any}
+use borrow.Author.Tests.{lt-ltb, le-ltb, leb-true, leb-false, ltb-true, ltb-false, not-true, not-false}
+use Rattle.rules.specs.Text.{all, any}
 use Rattle.rules.specs.Reading.{Module, moduleAt}
 use Rattle.rules.specs.State.{Symbol, State, state}
-use Rattle.rules.specs.Placing.{entriesIn, externalsIn, codeIn, lengthIn, entryName, defineAll, mentionAll, joined, putAll, clash, noRoom, overlaps, badArguments, outOfRange, duplicates, tableFull, placingFault, placed}
+use Rattle.rules.specs.Placing.{entriesIn, externalsIn, codeIn, lengthIn, entryName, defineAll, mentionAll, joined, putAll, noRoom, overlaps, badArguments, outOfRange, duplicates, tableFull, placingFault, placed}
 use Rattle.rules.specs.Calls.{withSymbols}
 use Rattle.rules.specs.declared.reading.Part.{Part}
+use Rattle.rules.proofs.TestLaws.{all-weaken}
+use Rattle.rules.proofs.PartLaws.{codeBelow}
+use Rattle.rules.proofs.ReadingLaws.{ModuleSound}
+use Rattle.rules.proofs.OverlapLaws.{clash, below, clash-overlap}
 use Rattle.rules.proofs.SoundLaws.{mentionAll-longer}
 use Rattle.state.specs.Layout.{decode}
 use Rattle.state.specs.Good.{Good, Holds, withNext}
-use Rattle.parts.specs.Passes.{badCode, overRange, repeated, namesIn}
+use Rattle.tables.specs.Heads.{namesIn}
+use Rattle.placing.specs.Passes.{badCode, overRange, repeated}
 use Rattle.placing.specs.Effects.{laid, Laid, Linkable, relinked, linkAt, plainAll, entered, enteringFault, Entered, mentioned, positionsOf, Mentioned, Tried}
 use Rattle.placing.specs.declared.symbols.Mentions.{Mentions}
-use Rattle.placing.proofs.LinkLaws.{place-at, place-there, link-laid}
+use Rattle.placing.proofs.LinkLaws.{position-at, position-there, link-laid}
 
 -- the tests, at a base
 faults : ℕ → State → List Part → ℕ
@@ -31,13 +36,30 @@ faults base s ps =
     (cond (any (badCode (length (externalsIn ps))) (codeIn ps)) 11
     (cond (any (overRange base) (entriesIn ps)) 12 (cond (repeated (s .symbols) (namesIn ps)) 13 (cond (ltb 256 (length t)) 14 0)))))
 
-module _ (s : State) (ps : List Part) {base : ℕ} (b : base ≡ s .next) where
+-- where there is room, test 10 word by word is the definition's
+module _ (s : State) (ps : List Part) (sound : ModuleSound (moduleAt 0 ps)) (full : length (s .words) ≡ 4096) where
+  words-inside : s .next + lengthIn ps ≤ 4096 → all (below (s .next) (length (s .words))) (codeIn ps) ≡ true
+  unfolding below
+  words-inside h =
+      all-weaken (codeBelow (lengthIn ps)) (below (s .next) (length (s .words)))
+      (λ c k. lt-ltb (s .next + c .address) (length (s .words)) (omega (arith, ltb-true (c .address) (lengthIn ps) k)))
+      (codeIn ps)
+      (sound .below)
+
+  faults-are : faults (s .next) s ps ≡ placingFault s (moduleAt 0 ps)
+  unfolding faults placingFault noRoom overlaps badArguments outOfRange duplicates tableFull joined
+  faults-are = go (ltb 4096 (s .next + lengthIn ps)) refl
+    where
+      go : (t : Bool) → ltb 4096 (s .next + lengthIn ps) ≡ t → faults (s .next) s ps ≡ placingFault s (moduleAt 0 ps)
+      go true e = rw e
+      go false e = rw (clash-overlap (s .next) (codeIn ps) (s .words) (words-inside (ltb-false 4096 (s .next + lengthIn ps) e)))
+
+module _ (s : State) (ps : List Part) (sound : ModuleSound (moduleAt 0 ps)) (full : length (s .words) ≡ 4096) {base : ℕ} (b : base ≡ s .next) where
   abbrev m : Module
   m = moduleAt 0 ps
 
   fault-is : faults base s ps ≡ placingFault s m
-  unfolding faults placingFault noRoom overlaps badArguments outOfRange duplicates tableFull joined
-  fault-is = rw b
+  fault-is = ap (λ k. faults k s ps) b ∙ faults-are s ps sound full
 
   refused : {r : ℕ} {after : List ℕ} → Good after → (r ≡ 0 → ⊥) → r ≤ 14 → faults base s ps ≡ r → Tried s m r after
   refused g n k e = record { number = sym e ∙ fault-is; most = k; good = g; done = λ z. absurd (n z) }
@@ -140,8 +162,8 @@ module _ (s : State) (ps : List Part) {base : ℕ} (b : base ≡ s .next) where
                   state₃ : decode st₃ ≡ mentioned (externalsIn ps) (entered base (entriesIn ps) (laid base (codeIn ps) s))
                   state₃ = y .done roomy ∙ ap (mentioned (externalsIn ps)) state₂
 
-                  places-are : take (length (externalsIn ps)) at ≡ positionsOf (externalsIn ps) (defineAll base (entriesIn ps) (s .symbols))
-                  places-are = y .places roomy ∙ ap (λ (v : State). positionsOf (externalsIn ps) (v .symbols)) state₂
+                  positions-are : take (length (externalsIn ps)) at ≡ positionsOf (externalsIn ps) (defineAll base (entriesIn ps) (s .symbols))
+                  positions-are = y .positions roomy ∙ ap (λ (v : State). positionsOf (externalsIn ps) (v .symbols)) state₂
 
                   pub can-link : length (externalsIn ps) ≤ 64 → Linkable (length (externalsIn ps)) (codeIn ps) at (decode st₃)
                   can-link few =
@@ -151,7 +173,7 @@ module _ (s : State) (ps : List Part) {base : ℕ} (b : base ≡ s .next) where
                         there =
                             λ k h.
                             subst (λ (v : State). getD at k 0 < length (v .symbols)) (sym state₃)
-                            (place-there (externalsIn ps) (defineAll base (entriesIn ps) (s .symbols)) at places-are k h);
+                            (position-there (externalsIn ps) (defineAll base (entriesIn ps) (s .symbols)) at positions-are k h);
                       }
 
                   pub all-done : {st₄ st₅ : List ℕ} → Holds st₄ (relinked base at (codeIn ps) (decode st₃)) →
@@ -160,7 +182,7 @@ module _ (s : State) (ps : List Part) {base : ℕ} (b : base ≡ s .next) where
                   all-done {st₄} {st₅} h₄ h₅ =
                       let words : linkAt base at (codeIn ps) (plainAll base (codeIn ps) (s .words)) ≡ putAll base (externalsIn ps) table (codeIn ps) (s .words) =
                       link-laid base (externalsIn ps) table at
-                      (place-at (externalsIn ps) (defineAll base (entriesIn ps) (s .symbols)) at places-are)
+                      (position-at (externalsIn ps) (defineAll base (entriesIn ps) (s .symbols)) at positions-are)
                       (codeIn ps)
                       (s .words)
                       apart

@@ -10,17 +10,18 @@ use lib.Dec.{eqb, ltb}
 use borrow.Author.Tests.{lt-ltb, le-ltb, ltb-false, eq-eqb, ne-eqb, eqb-false}
 use Rattle.rules.specs.Text.{any}
 use Rattle.rules.specs.State.{Word, unplaced, plain, refers, isPlaced, State}
-use Rattle.rules.specs.Placing.{Code, codeIn, clash}
+use Rattle.rules.specs.Placing.{Code, codeIn}
 use Rattle.rules.specs.declared.reading.Part.{Part}
 use Rattle.rules.proofs.BoolLaws.{or-off}
+use Rattle.rules.proofs.OverlapLaws.{clash}
 use Rattle.tables.specs.Tables.{partOf}
 use Rattle.state.specs.Layout.{decode}
 use Rattle.state.specs.Good.{Good, Holds, withWords}
 use Rattle.state.proofs.ListLaws.{map-set}
-use Rattle.parts.specs.Cells.{partsFrom, isWord, addressOf, argumentOf, isReference, codeOf, isBad}
-use Rattle.parts.specs.Passes.{badCode}
-use Rattle.parts.proofs.CellLaws.{parts-done, parts-next, part-cases, code-cons}
-use Rattle.parts.proofs.PassLaws.{bad-turn}
+use Rattle.tables.specs.Heads.{partsFrom, isWord, addressOf, argumentOf, isReference, codeOf}
+use Rattle.placing.specs.Passes.{badCode, isBad}
+use Rattle.tables.proofs.HeadLaws.{parts-done, parts-next, part-cases, code-cons}
+use Rattle.placing.proofs.PassLaws.{bad-turn}
 use Rattle.placing.specs.Effects.{plainAll, laid, Laid, Laying, relink, linkAt, relinked, Linking}
 
 -- ---- what is placed is all that a clash looks at
@@ -71,22 +72,22 @@ module _ (cells : List ℕ) (i : ℕ) where
         ≡ cond (isWord (headAt cells i)) (codeOf (headAt cells i) (bodyAt cells i) ∷ codeIn (partsFrom cells (i + 2))) (codeIn (partsFrom cells (i + 2)))
     codes-next = ap codeIn (parts-next cells i h) ∙ code-cons _ _ _
 
-    pub no-word : headAt cells i % 8 ≤ 4 → codeIn (partsFrom cells i) ≡ codeIn (partsFrom cells (i + 2))
-    no-word k = codes-next ∙ rw (le-ltb 4 (headAt cells i % 8) k)
+    pub no-word : isWord (headAt cells i) ≡ false → codeIn (partsFrom cells i) ≡ codeIn (partsFrom cells (i + 2))
+    no-word k = codes-next ∙ rw k
 
-    pub a-word : 4 < headAt cells i % 8 →
+    pub a-word : isWord (headAt cells i) ≡ true →
         codeIn (partsFrom cells i) ≡ codeOf (headAt cells i) (bodyAt cells i) ∷ codeIn (partsFrom cells (i + 2))
-    a-word k = codes-next ∙ rw (lt-ltb 4 (headAt cells i % 8) k)
+    a-word k = codes-next ∙ rw k
 
 -- ---- laying the words
 
 module _ (base : ℕ) (whole : List Code) (s₀ : State) where
   module _ (cells : List ℕ) (i : ℕ) (h : 1 < length cells - i) where
-    pub lay-skip : (s : State) → headAt cells i % 8 ≤ 4 →
+    pub lay-skip : (s : State) → isWord (headAt cells i) ≡ false →
         Laying base whole s₀ (codeIn (partsFrom cells i)) s → Laying base whole s₀ (codeIn (partsFrom cells (i + 2))) s
     lay-skip s k = subst (λ cs. Laying base whole s₀ cs s) (no-word cells i h k)
 
-    module _ (s : State) (k : 4 < headAt cells i % 8) (l : Laying base whole s₀ (codeIn (partsFrom cells i)) s)
+    module _ (s : State) (k : isWord (headAt cells i) ≡ true) (l : Laying base whole s₀ (codeIn (partsFrom cells i)) s)
         (d : ℕ) (e : d ≡ addressOf (headAt cells i)) (r : Bool) (q : r ≡ isPlaced (getD (s .words) (base + d) unplaced)) where
       here : Laying base whole s₀ (codeOf (headAt cells i) (bodyAt cells i) ∷ codeIn (partsFrom cells (i + 2))) s
       here = subst (λ cs. Laying base whole s₀ cs s) (a-word cells i h k) l
@@ -149,15 +150,15 @@ module _ (base : ℕ) (at : List ℕ) where
           ap (λ ps. linkAt base at (codeIn ps) (s .words)) (parts-next cells i h)
           ∙ link-cons (headAt cells i) (bodyAt cells i) (partsFrom cells (i + 2)) (s .words)
 
-      pub link-skip : headAt cells i % 8 ≢ 6 → Linking base n at whole s₀ (codeIn (partsFrom cells (i + 2))) s
+      pub link-skip : isReference (headAt cells i) ≡ false → Linking base n at whole s₀ (codeIn (partsFrom cells (i + 2))) s
       link-skip k =
           record {
-            relinked-is = ap (λ ws. withWords ws s) (sym (linked-on ∙ rw (ne-eqb (headAt cells i % 8) 6 k))) ∙ l .relinked-is;
+            relinked-is = ap (λ ws. withWords ws s) (sym (linked-on ∙ rw k)) ∙ l .relinked-is;
             table-is = l .table-is;
             arguments = good-numbers .1;
           }
 
-      module _ (k : headAt cells i % 8 ≡ 6) (number : ℕ) (e : number ≡ argumentOf (headAt cells i)) where
+      module _ (k : isReference (headAt cells i) ≡ true) (number : ℕ) (e : number ≡ argumentOf (headAt cells i)) where
         pub link-number : (1 ≤ number) × (number ≤ n)
         unfolding isBad
         link-number =
@@ -171,7 +172,7 @@ module _ (base : ℕ) (at : List ℕ) where
             subst (Linking base n at whole s₀ (codeIn (partsFrom cells (i + 2)))) (sym u)
             (record {
               relinked-is =
-                  ap (λ ws. withWords ws s) (sym (linked-on ∙ rw (eq-eqb (headAt cells i % 8) 6 k, ← e, ← q))) ∙ l .relinked-is;
+                  ap (λ ws. withWords ws s) (sym (linked-on ∙ rw (k, ← e, ← q))) ∙ l .relinked-is;
               table-is = l .table-is;
               arguments = good-numbers .1;
             })

@@ -8,14 +8,15 @@ use lib.Dec.{leb, ltb}
 use Rattle.rules.specs.Text.{any}
 use Rattle.rules.specs.Reading.{Module}
 use Rattle.rules.specs.State.{Symbol, positionOf, Word, plain, refers, State}
-use Rattle.rules.specs.Placing.{Code, entryName, clash, defineAll, mention, mentionAll, placingFault, placed}
+use Rattle.rules.specs.Placing.{Code, entryName, defineAll, mention, mentionAll, placingFault, placed}
 use Rattle.rules.specs.Calls.{withSymbols}
+use Rattle.rules.proofs.OverlapLaws.{clash}
 use Rattle.rules.specs.declared.line.Entry.{Entry}
 use Rattle.rules.specs.declared.line.Relocation.{Relocation}
 use Rattle.rules.specs.declared.line.Relocation.the-variants.{Plain, External, Unread}
 use Rattle.state.specs.Layout.{decode}
 use Rattle.state.specs.Good.{Good, withWords}
-use Rattle.parts.specs.Passes.{badCode, repeated}
+use Rattle.placing.specs.Passes.{badCode, repeated}
 use Rattle.placing.specs.declared.symbols.Mentions.{Mentions}
 
 -- ---- words: first all of them without their references, then the references
@@ -38,7 +39,7 @@ pub record Laying (base : ℕ) (whole : List Code) (s₀ : State) (rest : List C
   pub clash-is : clash base rest (s .words) ≡ clash base whole (s₀ .words)
   pub laid-is : laid base rest s ≡ laid base whole s₀
 
--- a word that refers to external k is put again, with the place that stands for k
+-- a word that refers to external k is put again, with the position that stands for k
 unfoldable pub relink : List ℕ → ℕ → ℕ → Relocation → List Word → List Word
 relink at address text Plain ws = ws
 relink at address text (External k) ws = set ws address (refers text (getD at (k - 1) 0))
@@ -51,7 +52,7 @@ linkAt base at (c ∷ cs) ws = linkAt base at cs (relink at (base + c .address) 
 abbrev pub relinked : ℕ → List ℕ → List Code → State → State
 relinked base at cs s = withWords (linkAt base at cs (s .words)) s
 
--- every external number is one of the n externals', and the n places are of symbols of the table
+-- every external number is one of the n externals', and the n positions are of symbols of the table
 pub record Linkable (n : ℕ) (cs : List Code) (at : List ℕ) (s : State) : Type 0 where
   pub few : n ≤ 64
   pub arguments : any (badCode n) cs ≡ false
@@ -94,7 +95,7 @@ pub record EnteredPart (base : ℕ) (whole : List Entry) (s : State) (rest : Lis
 abbrev pub mentioned : List ℕ → State → State
 mentioned xs s = withSymbols (mentionAll xs (s .symbols)) s
 
--- the place of each external as it joins
+-- the position of each external as it joins
 unfoldable pub positionsOf : List ℕ → List Symbol → List ℕ
 positionsOf [] t = []
 positionsOf (x ∷ xs) t = positionOf x t ∷ positionsOf xs (mention x t)
@@ -103,13 +104,13 @@ pub record Mentioned (xs : List ℕ) (s : State) (r : Mentions) (after : List �
   pub room-is : r .room ≡ leb (length (mentionAll xs (s .symbols))) 256
   pub good : Good after
   pub done : r .room ≡ true → decode after ≡ mentioned xs s
-  pub places : r .room ≡ true → take (length xs) (r .at) ≡ positionsOf xs (s .symbols)
+  pub positions : r .room ≡ true → take (length xs) (r .at) ≡ positionsOf xs (s .symbols)
 
--- on the way, with the places of the first n externals
+-- on the way, with the positions of the first n externals
 pub record Mentioning (whole : List ℕ) (s₀ : State) (n : ℕ) (at : List ℕ) (rest : List ℕ) (s : State) : Type 0 where
   pub long : length at ≡ 64
   pub count : n + length rest ≡ length whole
-  pub places : take n at ++ positionsOf rest (s .symbols) ≡ positionsOf whole (s₀ .symbols)
+  pub positions : take n at ++ positionsOf rest (s .symbols) ≡ positionsOf whole (s₀ .symbols)
   pub mentioned-is : mentioned rest s ≡ mentioned whole s₀
 
 -- ---- a module

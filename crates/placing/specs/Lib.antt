@@ -1,1 +1,3 @@
+pub mod Passes
 pub mod Effects
+pub mod Walks

@@ -1,10 +1,15 @@
 // The symbols of a module: its entries, then its externals.
-use parts::heads::entry_value;
-use parts::heads::is_entry;
-use parts::names::duplicates;
+use crate::names::duplicates;
+use rules::answer::DONE;
+use rules::answer::DUPLICATE;
+use rules::answer::TABLE;
+use rules::limits::MOST_SYMBOLS;
 use state::table::define;
 use state::table::is_defined;
 use state::table::mention_at;
+use tables::heads::entry_value;
+use tables::heads::is_entry;
+use tables::heads::is_external;
 ghost use Prim.Native.Nat.{_-_, _+_, _<_, _≤_};
 ghost use mathlib.Core.Bool.{false, cond};
 ghost use mathlib.Core.Path.{_≡_};
@@ -14,8 +19,8 @@ ghost use Rattle.rules.specs.Placing.{entriesIn, externalsIn};
 ghost use Rattle.tables.specs.Tables.{partsOf};
 ghost use Rattle.state.specs.Layout.{decode};
 ghost use Rattle.state.specs.Good.{Good};
-ghost use Rattle.parts.specs.Cells.{partsFrom};
-ghost use Rattle.parts.specs.Passes.{overRange, namesIn, repeated};
+ghost use Rattle.tables.specs.Heads.{partsFrom, namesIn};
+ghost use Rattle.placing.specs.Passes.{overRange, repeated};
 ghost use Rattle.placing.specs.Effects.{EnteredPart, Entered, Mentioned};
 
 // The fault where the table is full at cell `at`: 13 goes before 14, so the entries from there on are looked at once more.
@@ -24,7 +29,7 @@ fn full_fault(parts: &[u64], at: usize, state: &[u64]) -> u64
     requires { ⌜ Good (now state) ⌝ }
     ensures { λ r. ⌜ r ≡ cond (repeated (decode (now (state .entry)) .symbols) (namesIn (partsFrom (now (parts .entry)) at))) 13 14 ⌝ }
 {
-    if duplicates(parts, at, state) { 13 } else { 14 }
+    if duplicates(parts, at, state) { DUPLICATE } else { TABLE }
 }
 
 // Enters the part at cell `at`, if it is an entry.
@@ -38,13 +43,13 @@ fn enter_part(parts: &[u64], at: usize, base: usize, state: &mut [u64]) -> u64
     let head = parts[at];
     let name = parts[at + 1];
     if !is_entry(head) {
-        return 0;
+        return DONE;
     }
     if is_defined(state, name) {
-        return 13;
+        return DUPLICATE;
     }
     if define(state, name, entry_value(head, base) as u16) {
-        return 0;
+        return DONE;
     }
     full_fault(parts, at, state)
 }
@@ -60,15 +65,15 @@ pub fn enter(parts: &[u64], base: usize, state: &mut [u64]) -> u64
     let mut i = 0;
     while 1 < n - i {
         let fault = enter_part(parts, i, base, state);
-        if fault != 0 {
+        if fault != DONE {
             return fault;
         }
         i += 2;
     }
-    0
+    DONE
 }
 
-// Whether the table had room for the externals, and then the place of each.
+// Whether the table had room for the externals, and then the position of each in the table.
 pub struct Mentions {
     pub room: bool,
     pub at: [u16; 64],
@@ -88,13 +93,13 @@ pub fn mention_all(parts: &[u64], guesses: [u16; 512], state: &mut [u64]) -> Men
         let head = parts[i];
         let name = parts[i + 1];
         i += 2;
-        if head % 8 == 3 {
+        if is_external(head) {
             let guess = guesses[(name % 509) as usize] as usize;
-            let place = mention_at(state, name, guess);
-            if place == 256 {
+            let position = mention_at(state, name, guess);
+            if position == MOST_SYMBOLS {
                 return Mentions { room: false, at };
             }
-            at[count] = place as u16;
+            at[count] = position as u16;
             count += 1;
         }
     }

@@ -1,10 +1,12 @@
 // The code words of a module. They are put plain first, since test 10 comes before the symbols join the table; when these
-// have their places, the words that refer to an external are put again.
-use parts::heads::address;
-use parts::heads::argument;
+// have their positions, the words that refer to an external are put again.
 use state::words::is_placed;
 use state::words::put_plain;
 use state::words::put_reference;
+use tables::heads::address;
+use tables::heads::argument;
+use tables::heads::is_reference;
+use tables::heads::is_word;
 ghost use Prim.Native.Nat.{_≤_};
 ghost use lib.ListN.{length};
 ghost use Rattle.rules.specs.Placing.{externalsIn, codeIn};
@@ -25,7 +27,7 @@ pub fn lay(parts: &[u64], base: usize, state: &mut [u64]) -> bool
         let head = parts[i];
         let text = parts[i + 1];
         i += 2;
-        if 4 < head % 8 {
+        if is_word(head) {
             let at = base + address(head);
             if is_placed(state, at) {
                 return true;
@@ -36,7 +38,7 @@ pub fn lay(parts: &[u64], base: usize, state: &mut [u64]) -> bool
     false
 }
 
-// Links each word that refers to an external: `at` has the externals' places in the table.
+// Links each word that refers to an external: `at` has the externals' positions in the table.
 pub fn link(parts: &[u64], base: usize, at: [u16; 64], state: &mut [u64])
     requires { ⌜ base ≤ 4096 ⌝ }
     requires { ⌜ Good (now state) ⌝ }
@@ -49,7 +51,7 @@ pub fn link(parts: &[u64], base: usize, at: [u16; 64], state: &mut [u64])
         let head = parts[i];
         let text = parts[i + 1];
         i += 2;
-        if head % 8 == 6 {
+        if is_reference(head) {
             let symbol = at[argument(head) - 1] as usize;
             put_reference(state, base + address(head), text, symbol);
         }

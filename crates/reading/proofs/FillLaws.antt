@@ -8,7 +8,7 @@ use lib.ListN.{length, drop, getD, set, length-append, length-drop}
 use lib.Seq.{drop-cons, set-at}
 use Rattle.rules.specs.Calls.{overwritten}
 use Rattle.rules.specs.declared.reading.Part.{Part}
-use Rattle.tables.specs.Tables.{partHead, partBody, freeRow, memberRow, sectionRow}
+use Rattle.tables.specs.Tables.{partHead, partBody, freeRow, memberRow, sectionRow, rowHead, rowBody}
 use Rattle.tables.specs.Cells.{Row, row, cellsOf, headOfRow, bodyOfRow, rowCells}
 use Rattle.tables.proofs.CellLaws.{cells-length, cells-add}
 use Rattle.reading.specs.TwoTables.{Tables, addPart, addModule, addSection}
@@ -94,7 +94,7 @@ module _ {f : Filled} {h b : ℕ} {old new : List ℕ} where
 
     module _ (line : ℕ) where
       -- a range of parts, with a kind of row
-      module _ (k : ℕ) (d : h ≡ k + 4 * line) (e : b ≡ f .object + 65536 * f .parts) where
+      module _ (k : ℕ) (d : h ≡ rowHead k line) (e : b ≡ rowBody (f .object) (f .parts)) where
         module-row :
             (t : Tables) (lent : List ℕ) → f ≡ filledOf t → old ≡ overwritten (rowsIn t) lent
             → new ≡ overwritten (rowCells (t .rows ++ (row k line (t .object) (length (t .parts)) ∷ []))) lent
@@ -102,24 +102,24 @@ module _ {f : Filled} {h b : ℕ} {old new : List ℕ} where
             new-row
             (λ t. row k line (t .object) (length (t .parts)))
             (λ t g. d)
-            (λ t g. e ∙ ap (λ (x : Filled). x .object + 65536 * x .parts) g)
+            (λ t g. e ∙ ap (λ (x : Filled). rowBody (x .object) (x .parts)) g)
 
       pub fills-member :
-          (member : Bool) → member ≡ true → h ≡ memberRow + 4 * line → b ≡ f .object + 65536 * f .parts
+          (member : Bool) → member ≡ true → h ≡ rowHead memberRow line → b ≡ rowBody (f .object) (f .parts)
           → Fills rowsIn (addModule member line) f old (filled (f .parts) (f .rows + 1) (f .parts) (f .section)) new
       unfolding addModule
       fills-member true m d e = record { counts = λ t g. cc (counted-row t _ g); cells = module-row memberRow d e }
       fills-member false m d e = absurd (false≢true m)
 
       pub fills-free :
-          (member : Bool) → member ≡ false → h ≡ freeRow + 4 * line → b ≡ f .object + 65536 * f .parts
+          (member : Bool) → member ≡ false → h ≡ rowHead freeRow line → b ≡ rowBody (f .object) (f .parts)
           → Fills rowsIn (addModule member line) f old (filled (f .parts) (f .rows + 1) (f .parts) (f .rows + 1)) new
       unfolding addModule
       fills-free true m d e = absurd (false≢true (sym m))
       fills-free false m d e = record { counts = λ t g. cc (counted-row t _ g); cells = module-row freeRow d e }
 
       pub fills-section :
-          h ≡ sectionRow + 4 * line → b ≡ f .section + 65536 * f .rows
+          h ≡ rowHead sectionRow line → b ≡ rowBody (f .section) (f .rows)
           → Fills rowsIn (addSection line) f old (filled (f .parts) (f .rows + 1) (f .parts) (f .rows + 1)) new
       unfolding addSection
       fills-section d e =
@@ -129,5 +129,5 @@ module _ {f : Filled} {h b : ℕ} {old new : List ℕ} where
                 new-row
                 (λ t. row sectionRow line (t .section) (length (t .rows)))
                 (λ t g. d)
-                (λ t g. e ∙ ap (λ (x : Filled). x .section + 65536 * x .rows) g);
+                (λ t g. e ∙ ap (λ (x : Filled). rowBody (x .section) (x .rows)) g);
           }

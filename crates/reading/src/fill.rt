@@ -1,18 +1,17 @@
 // Writing the two tables, one element at the end at a time.
 use rules::reading::Part;
-use tables::part_body;
-use tables::part_head;
+use tables::parts::part_body;
+use tables::parts::part_head;
+use tables::rows::FREE;
+use tables::rows::MEMBER;
+use tables::rows::SECTION;
+use tables::rows::row_body;
+use tables::rows::row_head;
 ghost use mathlib.Core.Path.{_≡_};
 ghost use Prim.Native.Nat.{_+_, _*_, _<_};
 ghost use lib.ListN.{length};
 ghost use Rattle.reading.specs.TwoTables.{empty, addPart, addModule, addSection};
 ghost use Rattle.reading.specs.Filling.{Put, filledOf, PartRoom, RowRoom, partsIn, rowsIn, Fills};
-
-const FREE_ROW: u64 = 1;
-
-const MEMBER_ROW: u64 = 2;
-
-const SECTION_ROW: u64 = 3;
 
 // How many parts and rows are written, and where the parts of the open module and the rows of the open section begin.
 pub struct Filled {
@@ -62,9 +61,9 @@ pub fn close_module(rows: &mut [u64], filled: Filled, member: bool, line: u32) -
     requires { ⌜ RowRoom filled (now rows) ⌝ }
     ensures { λ r. ⌜ Fills rowsIn (addModule member line) filled (now (rows .entry)) r (now (rows .exit)) ⌝ }
 {
-    let body = filled.object as u64 + 65536 * (filled.parts as u64);
+    let body = row_body(filled.object, filled.parts);
     if member {
-        put(rows, filled.rows, MEMBER_ROW + 4 * (line as u64), body);
+        put(rows, filled.rows, row_head(MEMBER, line), body);
         return Filled {
             parts: filled.parts,
             rows: filled.rows + 1,
@@ -72,7 +71,7 @@ pub fn close_module(rows: &mut [u64], filled: Filled, member: bool, line: u32) -
             section: filled.section,
         };
     }
-    put(rows, filled.rows, FREE_ROW + 4 * (line as u64), body);
+    put(rows, filled.rows, row_head(FREE, line), body);
     Filled {
         parts: filled.parts,
         rows: filled.rows + 1,
@@ -86,8 +85,8 @@ pub fn close_section(rows: &mut [u64], filled: Filled, line: u32) -> Filled
     requires { ⌜ RowRoom filled (now rows) ⌝ }
     ensures { λ r. ⌜ Fills rowsIn (addSection line) filled (now (rows .entry)) r (now (rows .exit)) ⌝ }
 {
-    let body = filled.section as u64 + 65536 * (filled.rows as u64);
-    put(rows, filled.rows, SECTION_ROW + 4 * (line as u64), body);
+    let body = row_body(filled.section, filled.rows);
+    put(rows, filled.rows, row_head(SECTION, line), body);
     Filled {
         parts: filled.parts,
         rows: filled.rows + 1,

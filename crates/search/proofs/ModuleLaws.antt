@@ -15,9 +15,9 @@ use Rattle.rules.specs.Placing.{entriesIn, entryName}
 use Rattle.rules.specs.Load.{entryNames, isNeeded}
 use Rattle.rules.specs.declared.reading.Part.{Part}
 use Rattle.tables.specs.Tables.{partsOf, bodyIn, startIn, endIn, cellsIn}
-use Rattle.parts.specs.Cells.{partsFrom, isEntry}
-use Rattle.parts.specs.Passes.{namesIn}
-use Rattle.parts.proofs.CellLaws.{parts-done}
+use Rattle.tables.specs.Heads.{partsFrom, isEntry}
+use Rattle.tables.specs.Heads.{namesIn}
+use Rattle.tables.proofs.HeadLaws.{parts-done}
 use Rattle.parts.proofs.PassLaws.{names-next, turned}
 
 -- ---- is one of the entries from here on undefined

@@ -11,7 +11,7 @@ ghost use Rattle.rules.specs.Load.{isNeeded};
 ghost use Rattle.tables.specs.Tables.{partsOf, lineIn};
 ghost use Rattle.state.specs.Layout.{decode};
 ghost use Rattle.state.specs.Good.{Good};
-ghost use Rattle.parts.specs.Cells.{isEntry};
+ghost use Rattle.tables.specs.Heads.{isEntry};
 
 // The line of a row's header.
 pub fn row_line(rows: &[u64], row: usize) -> u64

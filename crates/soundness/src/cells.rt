@@ -1,10 +1,18 @@
 // The tests of soundness, each over a region of state memory.
 use crate::name::is_packed;
-use state::layout::ADDRESSES;
+use rules::limits::MOST_SYMBOLS;
+use rules::limits::PROGRAM_WORDS;
+use state::layout::COUNT;
 use state::layout::DEFINED;
+use state::layout::FROZEN;
+use state::layout::MARK;
 use state::layout::NAMES;
+use state::layout::NEXT;
+use state::layout::PLAIN;
+use state::layout::SPARE;
 use state::layout::TAGS;
 use state::layout::TEXTS;
+use state::layout::UNPLACED;
 use state::layout::VALUES;
 ghost use Prim.Native.Nat.{_+_, _<_, _≤_};
 ghost use mathlib.Core.Path.{_≡_};
@@ -16,16 +24,16 @@ pub fn header_sound(state: &[u64]) -> bool
     requires { ⌜ length (now state) ≡ size ⌝ }
     ensures { λ r. ⌜ r ≡ headerSound (now (state .entry)) ⌝ }
 {
-    if 256 < state[0] {
+    if (MOST_SYMBOLS as u64) < state[COUNT] {
         return false;
     }
-    if 4096 < state[1] {
+    if (PROGRAM_WORDS as u64) < state[NEXT] {
         return false;
     }
-    if 2 < state[2] {
+    if FROZEN < state[MARK] {
         return false;
     }
-    state[3] == 0
+    state[SPARE] == 0
 }
 
 pub fn zero_between(state: &[u64], from: usize, to: usize) -> bool
@@ -88,6 +96,11 @@ fn unlike_from(state: &[u64], x: u64, i: usize, n: usize) -> bool
     true
 }
 
+// The filter has a flag for each remainder of a name.
+const REMAINDERS: u64 = 3989;
+
+const FILTER: usize = 4096;
+
 // Is the name of symbol i that of no later one? The filter has met the remainders of the names behind it, and meets that of this
 // one. Only where it had met it already the names behind are looked through.
 fn stands_alone(state: &[u64], i: usize, n: usize, met: &mut [u8]) -> bool
@@ -97,7 +110,7 @@ fn stands_alone(state: &[u64], i: usize, n: usize, met: &mut [u8]) -> bool
     ensures { λ r. ⌜ Alone (now (state .entry)) n i r (now (met .exit)) ⌝ }
 {
     let name = state[NAMES + i];
-    let h = (name % 3989) as usize;
+    let h = (name % REMAINDERS) as usize;
     if met[h] == 0 {
         met[h] = 1;
         return true;
@@ -111,7 +124,7 @@ pub fn names_differ(state: &[u64], n: usize) -> bool
     requires { ⌜ n ≤ 256 ⌝ }
     ensures { λ r. ⌜ r ≡ namesDiffer (now (state .entry)) n ⌝ }
 {
-    let mut met = [0u8; 4096];
+    let mut met = [0u8; FILTER];
     let mut i = n;
     while 0 < i {
         i -= 1;
@@ -129,10 +142,10 @@ fn word_sound(state: &[u64], n: usize, address: usize) -> bool
     ensures { λ r. ⌜ r ≡ wordSoundAt (now (state .entry)) n address ⌝ }
 {
     let tag = state[TAGS + address];
-    if tag == 0 {
+    if tag == UNPLACED {
         return state[TEXTS + address] == 0;
     }
-    tag <= n as u64 + 1
+    tag <= n as u64 + PLAIN
 }
 
 pub fn words_sound(state: &[u64], n: usize) -> bool
@@ -141,7 +154,7 @@ pub fn words_sound(state: &[u64], n: usize) -> bool
     ensures { λ r. ⌜ r ≡ wordsSound (now (state .entry)) n ⌝ }
 {
     let mut a = 0;
-    while a < ADDRESSES {
+    while a < PROGRAM_WORDS {
         if !word_sound(state, n, a) {
             return false;
         }

@@ -4,6 +4,10 @@ use crate::cells::names_differ;
 use crate::cells::symbols_sound;
 use crate::cells::words_sound;
 use crate::cells::zero_between;
+use rules::answer::BUFFER;
+use rules::answer::DAMAGED;
+use rules::answer::DONE;
+use state::layout::COUNT;
 use state::layout::NAMES;
 use state::layout::SIZE;
 use state::layout::TEXTS;
@@ -22,7 +26,7 @@ pub fn is_sound(state: &[u64]) -> bool
     if !header_sound(state) {
         return false;
     }
-    let n = state[0] as usize;
+    let n = state[COUNT] as usize;
     if !zero_between(state, NAMES + n, VALUES) {
         return false;
     }
@@ -43,10 +47,10 @@ pub fn refusal(state: &[u64]) -> u64
     ensures { λ r. ⌜ Refusal (now (state .entry)) r ⌝ }
 {
     if is_sound(state) {
-        return 0;
+        return DONE;
     }
     if state.len() != SIZE {
-        return 1;
+        return BUFFER;
     }
-    2
+    DAMAGED
 }

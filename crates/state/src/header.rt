@@ -1,8 +1,18 @@
 // The header of state memory: how many symbols there are, the next address, the mark.
+use crate::layout::BROKEN;
+use crate::layout::COUNT;
+use crate::layout::MARK;
+use crate::layout::NEXT;
+use crate::layout::UNMARKED;
+use rules::answer::DONE;
+use rules::answer::FROZEN;
+use rules::answer::RESET;
+use rules::limits::NO_ADDRESS;
 ghost use Prim.Native.Nat.{_≤_};
 ghost use mathlib.Core.Path.{_≡_};
 ghost use lib.ListN.{length};
-ghost use Rattle.rules.specs.State.{marked};
+ghost use Rattle.rules.specs.Limits.{programWords};
+ghost use Rattle.rules.specs.State.{marked, high as high-in};
 ghost use Rattle.rules.specs.Calls.{shutBy};
 ghost use Rattle.state.specs.Layout.{decode, markCell, markOf};
 ghost use Rattle.state.specs.Good.{Good, Holds, withNext};
@@ -11,30 +21,30 @@ pub fn symbol_count(state: &[u64]) -> usize
     requires { ⌜ Good (now state) ⌝ }
     ensures { λ r. ⌜ r ≡ length (decode (now (state .entry)) .symbols) ⌝ }
 {
-    state[0] as usize
+    state[COUNT] as usize
 }
 
 pub fn next_address(state: &[u64]) -> usize
     requires { ⌜ Good (now state) ⌝ }
     ensures { λ r. ⌜ r ≡ decode (now (state .entry)) .next ⌝ }
 {
-    state[1] as usize
+    state[NEXT] as usize
 }
 
 pub fn set_next(state: &mut [u64], next: usize)
     requires { ⌜ Good (now state) ⌝ }
-    requires { ⌜ next ≤ 4096 ⌝ }
+    requires { ⌜ next ≤ programWords ⌝ }
     ensures { λ r. ⌜ Holds (now (state .exit)) (withNext next (decode (now (state .entry)))) ⌝ }
 {
-    state[1] = next as u64;
+    state[NEXT] = next as u64;
 }
 
-// 0 none, 1 broken, 2 frozen.
+// UNMARKED, BROKEN or FROZEN.
 pub fn mark(state: &[u64]) -> u64
     requires { ⌜ Good (now state) ⌝ }
     ensures { λ r. ⌜ r ≡ markCell (decode (now (state .entry)) .mark) ⌝ }
 {
-    state[2]
+    state[MARK]
 }
 
 pub fn set_mark(state: &mut [u64], mark: u64)
@@ -42,7 +52,7 @@ pub fn set_mark(state: &mut [u64], mark: u64)
     requires { ⌜ mark ≤ 2 ⌝ }
     ensures { λ r. ⌜ Holds (now (state .exit)) (marked (markOf mark) (decode (now (state .entry)))) ⌝ }
 {
-    state[2] = mark;
+    state[MARK] = mark;
 }
 
 // The answer with which a mark refuses LOAD, FORCE and BASE: 3 broken, 4 frozen, 0 none.
@@ -51,11 +61,23 @@ pub fn shut_by(state: &[u64]) -> u64
     ensures { λ r. ⌜ r ≡ shutBy (decode (now (state .entry)) .mark) ⌝ }
 {
     let m = mark(state);
-    if m == 0 {
-        return 0;
+    if m == UNMARKED {
+        return DONE;
     }
-    if m == 1 {
-        return 3;
+    if m == BROKEN {
+        return RESET;
     }
-    4
+    FROZEN
+}
+
+// HIGH: the next address less one, 65,535 when that address is 0.
+pub fn high(state: &[u64]) -> u64
+    requires { ⌜ Good (now state) ⌝ }
+    ensures { λ r. ⌜ r ≡ high-in (decode (now (state .entry))) ⌝ }
+{
+    let next = next_address(state);
+    if next == 0 {
+        return NO_ADDRESS as u64;
+    }
+    (next - 1) as u64
 }

@@ -1,8 +1,9 @@
 // The table of symbols.
+use crate::layout::COUNT;
 use crate::layout::DEFINED;
-use crate::layout::MOST_SYMBOLS;
 use crate::layout::NAMES;
 use crate::layout::VALUES;
+use rules::limits::MOST_SYMBOLS;
 ghost use Prim.Native.Nat.{_≤_, _<_};
 ghost use mathlib.Core.Path.{_≡_};
 ghost use lib.ListN.{length, getD};
@@ -26,7 +27,7 @@ fn find_below(state: &[u64], name: u64, end: usize) -> usize
             return i;
         }
     }
-    state[0] as usize
+    state[COUNT] as usize
 }
 
 // A symbol's position, the count of symbols where there is none. Every search of the table comes here: the last symbols are looked at
@@ -35,7 +36,7 @@ pub fn find(state: &[u64], name: u64) -> usize
     requires { ⌜ Good (now state) ⌝ }
     ensures { λ r. ⌜ Position name (decode (now (state .entry)) .symbols) r ⌝ }
 {
-    let mut i = state[0] as usize;
+    let mut i = state[COUNT] as usize;
     while 3 < i {
         if state[i + 3] == name {
             return i - 1;
@@ -60,7 +61,7 @@ fn find_by(state: &[u64], name: u64, guess: usize) -> usize
     requires { ⌜ Good (now state) ⌝ }
     ensures { λ r. ⌜ Position name (decode (now (state .entry)) .symbols) r ⌝ }
 {
-    let n = state[0] as usize;
+    let n = state[COUNT] as usize;
     if n <= guess {
         return find(state, name);
     }
@@ -70,22 +71,24 @@ fn find_by(state: &[u64], name: u64, guess: usize) -> usize
     find(state, name)
 }
 
+const FEW: usize = 8;
+
 // How many of the table's names are worth a guess, where so many names are to be found: making them costs as much as finding a few.
-fn worth_guessing(state: &[u64], wanted: usize) -> usize
+fn worth_guessing(state: &[u64], names: usize) -> usize
     requires { ⌜ Good (now state) ⌝ }
     ensures { λ r. ⌜ r ≤ length (decode (now (state .entry)) .symbols) ⌝ }
 {
-    if wanted < 8 {
+    if names < FEW {
         return 0;
     }
-    state[0] as usize
+    state[COUNT] as usize
 }
 
 // Guesses: by the remainder of a name, the position of one with that remainder.
-pub fn guesses(state: &[u64], wanted: usize) -> [u16; 512]
+pub fn guesses(state: &[u64], names: usize) -> [u16; 512]
     requires { ⌜ Good (now state) ⌝ }
 {
-    let n = worth_guessing(state, wanted);
+    let n = worth_guessing(state, names);
     let mut positions = [0u16; 512];
     let mut i = 0;
     while i < n {
@@ -100,7 +103,7 @@ pub fn is_defined(state: &[u64], name: u64) -> bool
     ensures { λ r. ⌜ r ≡ isDefined name (decode (now (state .entry)) .symbols) ⌝ }
 {
     let i = find(state, name);
-    let n = state[0] as usize;
+    let n = state[COUNT] as usize;
     if i < n {
         return state[VALUES + i] != 0;
     }
@@ -112,7 +115,7 @@ pub fn is_undefined(state: &[u64], name: u64) -> bool
     ensures { λ r. ⌜ r ≡ isUndefined name (decode (now (state .entry)) .symbols) ⌝ }
 {
     let i = find(state, name);
-    let n = state[0] as usize;
+    let n = state[COUNT] as usize;
     if i < n {
         return state[VALUES + i] == 0;
     }
@@ -125,7 +128,7 @@ pub fn define(state: &mut [u64], name: u64, value: u16) -> bool
     ensures { λ r. ⌜ Joined (defined-in name value (decode (now (state .entry)) .symbols)) (decode (now (state .entry))) r (now (state .exit)) ⌝ }
 {
     let i = find(state, name);
-    let n = state[0] as usize;
+    let n = state[COUNT] as usize;
     if i == MOST_SYMBOLS {
         return false;
     }
@@ -134,17 +137,18 @@ pub fn define(state: &mut [u64], name: u64, value: u16) -> bool
     if i < n {
         return true;
     }
-    state[0] = i as u64 + 1;
+    state[COUNT] = i as u64 + 1;
     true
 }
 
-// An external joins the table undefined, if it is new. A guess is a position where it may stand. The answer is its position; 256, and nothing changes, where the table is full.
+// An external joins the table undefined, if it is new. A guess is a position where it may stand. The answer is its position;
+// MOST_SYMBOLS, and nothing changes, where the table is full.
 pub fn mention_at(state: &mut [u64], name: u64, guess: usize) -> usize
     requires { ⌜ Good (now state) ⌝ }
     ensures { λ r. ⌜ MentionedAt name (decode (now (state .entry))) r (now (state .exit)) ⌝ }
 {
     let at = find_by(state, name, guess);
-    let n = state[0] as usize;
+    let n = state[COUNT] as usize;
     if at < n {
         return at;
     }
@@ -152,7 +156,7 @@ pub fn mention_at(state: &mut [u64], name: u64, guess: usize) -> usize
         return MOST_SYMBOLS;
     }
     state[NAMES + at] = name;
-    state[0] = at as u64 + 1;
+    state[COUNT] = at as u64 + 1;
     at
 }
 
@@ -209,7 +213,7 @@ pub fn undefined_count(state: &[u64]) -> usize
     requires { ⌜ Good (now state) ⌝ }
     ensures { λ r. ⌜ r ≡ length (undefinedOnly (decode (now (state .entry)) .symbols)) ⌝ }
 {
-    let n = state[0] as usize;
+    let n = state[COUNT] as usize;
     let mut found = 0;
     let mut i = 0;
     while i < n {
@@ -226,7 +230,7 @@ pub fn undefined_position(state: &[u64], k: u64) -> usize
     requires { ⌜ Good (now state) ⌝ }
     ensures { λ r. ⌜ r ≡ undefinedPosition k (decode (now (state .entry)) .symbols) ⌝ }
 {
-    let n = state[0] as usize;
+    let n = state[COUNT] as usize;
     let mut more = k;
     let mut i = 0;
     while i < n {

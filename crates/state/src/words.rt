@@ -1,11 +1,16 @@
 // The program words. An address past the last one holds no word, and nothing is put there.
-use crate::layout::ADDRESSES;
 use crate::layout::LAST_ADDRESS;
+use crate::layout::PLAIN;
+use crate::layout::REFERENCE;
 use crate::layout::TAGS;
 use crate::layout::TEXTS;
+use crate::layout::UNPLACED;
+use rules::limits::NO_ADDRESS;
+use rules::limits::PROGRAM_WORDS;
 ghost use Prim.Native.Nat.{_≤_, _<_};
 ghost use mathlib.Core.Path.{_≡_};
 ghost use lib.ListN.{length, getD, set};
+ghost use Rattle.rules.specs.Limits.{programWords, mostSymbols};
 ghost use Rattle.rules.specs.State.{unplaced, plain, refers, isPlaced, highest as highest-in};
 ghost use Rattle.state.specs.Layout.{decode, textCell};
 ghost use Rattle.state.specs.Good.{Good, Holds, withWords};
@@ -15,21 +20,21 @@ pub fn is_placed(state: &[u64], address: usize) -> bool
     requires { ⌜ Good (now state) ⌝ }
     ensures { λ r. ⌜ r ≡ isPlaced (getD (decode (now (state .entry)) .words) address unplaced) ⌝ }
 {
-    if ADDRESSES <= address {
+    if PROGRAM_WORDS <= address {
         return false;
     }
-    state[TAGS + address] != 0
+    state[TAGS + address] != UNPLACED
 }
 
 pub fn put_plain(state: &mut [u64], address: usize, text: u64)
     requires { ⌜ Good (now state) ⌝ }
     ensures { λ r. ⌜ Holds (now (state .exit)) (withWords (set (decode (now (state .entry)) .words) address (plain text)) (decode (now (state .entry)))) ⌝ }
 {
-    if ADDRESSES <= address {
+    if PROGRAM_WORDS <= address {
         return;
     }
     state[TEXTS + address] = text;
-    state[TAGS + address] = 1;
+    state[TAGS + address] = PLAIN;
 }
 
 pub fn put_reference(state: &mut [u64], address: usize, text: u64, symbol: usize)
@@ -37,26 +42,26 @@ pub fn put_reference(state: &mut [u64], address: usize, text: u64, symbol: usize
     requires { ⌜ symbol < length (decode (now state) .symbols) ⌝ }
     ensures { λ r. ⌜ Holds (now (state .exit)) (withWords (set (decode (now (state .entry)) .words) address (refers text symbol)) (decode (now (state .entry)))) ⌝ }
 {
-    if ADDRESSES <= address {
+    if PROGRAM_WORDS <= address {
         return;
     }
     state[TEXTS + address] = text;
-    state[TAGS + address] = 2 + symbol as u64;
+    state[TAGS + address] = REFERENCE + symbol as u64;
 }
 
 // The text of a word, 0 where none is placed.
 pub fn text(state: &[u64], address: usize) -> u64
     requires { ⌜ Good (now state) ⌝ }
-    requires { ⌜ address < 4096 ⌝ }
+    requires { ⌜ address < programWords ⌝ }
     ensures { λ r. ⌜ r ≡ textCell (getD (decode (now (state .entry)) .words) address unplaced) ⌝ }
 {
     state[TEXTS + address]
 }
 
-// 0 for no word, 1 for a plain one, 2 + i for one that refers to symbol i.
+// UNPLACED, PLAIN, or REFERENCE + i for a word that refers to symbol i.
 pub fn tag(state: &[u64], address: usize) -> u64
     requires { ⌜ Good (now state) ⌝ }
-    requires { ⌜ address < 4096 ⌝ }
+    requires { ⌜ address < programWords ⌝ }
     ensures { λ r. ⌜ Tagged (decode (now (state .entry))) address r ⌝ }
 {
     state[TAGS + address]
@@ -65,17 +70,17 @@ pub fn tag(state: &[u64], address: usize) -> u64
 // The highest address that refers to a symbol, 65,535 if none.
 pub fn highest(state: &[u64], symbol: usize) -> usize
     requires { ⌜ Good (now state) ⌝ }
-    requires { ⌜ symbol ≤ 256 ⌝ }
+    requires { ⌜ symbol ≤ mostSymbols ⌝ }
     ensures { λ r. ⌜ r ≡ highest-in symbol (decode (now (state .entry)) .words) ⌝ }
 {
-    let wanted = 2 + symbol as u64;
+    let reference = REFERENCE + symbol as u64;
     let mut i = 0;
-    while i < ADDRESSES {
+    while i < PROGRAM_WORDS {
         let a = LAST_ADDRESS - i;
-        if state[TAGS + a] == wanted {
+        if state[TAGS + a] == reference {
             return a;
         }
         i += 1;
     }
-    65535
+    NO_ADDRESS
 }

@@ -1,13 +1,15 @@
 -- What a file holds, as two tables of 64-bit cells, two cells an element. The reading fills them, and the walk goes over them.
 -- Parts: the parts of all modules, one after the other. Rows: a row for each module and each section, written when it closes:
 -- a module with its range of parts, a section with its range of rows. Every cell decodes to something.
-use Prim.Native.Nat.{ℕ, zero, suc, _+_, _-_, _*_, _/_, _%_}
+use Prim.Native.Nat.{ℕ, zero, suc, _+_, _-_, _*_, _/_, _%_, _≤_}
 use mathlib.Core.Bool.{Bool, true, false, cond}
 use mathlib.Core.List.{List, [], _∷_}
 use lib.ListN.{getD, take, drop}
 use lib.Dec.{eqb}
+use mathlib.Core.Path.{_≡_}
 use Rattle.rules.specs.Line.{entry, codeWord}
 use Rattle.rules.specs.Reading.{Module, moduleAt, Item, free, section}
+use Rattle.tables.specs.declared.rows.Section.{Section}
 use Rattle.rules.specs.declared.line.Entry.{Entry}
 use Rattle.rules.specs.declared.line.CodeWord.{CodeWord}
 use Rattle.rules.specs.declared.line.Relocation.{Relocation}
@@ -17,19 +19,65 @@ use Rattle.rules.specs.declared.reading.Part.the-variants.{EntryPart, ExternalP
 
 -- ---- parts: kind and numbers in the first cell, name or text in the second
 
+-- the kinds; 0 is none
+abbrev pub absoluteEntry : ℕ
+absoluteEntry = 1
+
+abbrev pub relocatedEntry : ℕ
+relocatedEntry = 2
+
+abbrev pub external : ℕ
+external = 3
+
+-- a CODE header
+abbrev pub block : ℕ
+block = 4
+
+abbrev pub plainWord : ℕ
+plainWord = 5
+
+-- a word that refers to an external
+abbrev pub reference : ℕ
+reference = 6
+
+abbrev pub unreadWord : ℕ
+unreadWord = 7
+
 abbrev pub headOf : ℕ → ℕ → ℕ
 headOf kind numbers = kind + 8 * numbers
 
--- an address from a module's base is below 131,072
+abbrev pub kindOf : ℕ → ℕ
+kindOf head = head % 8
+
+abbrev pub numbersOf : ℕ → ℕ
+numbersOf head = head / 8
+
+-- two numbers of sixteen bits in one
+abbrev pub pair : ℕ → ℕ → ℕ
+pair a b = a + 65536 * b
+
+abbrev pub low16 : ℕ → ℕ
+low16 n = n % 65536
+
+-- an address from a module's base, below 131,072, and a number
+abbrev pub addressed : ℕ → ℕ → ℕ
+addressed a k = a + 131072 * k
+
+abbrev pub address : ℕ → ℕ
+address n = n % 131072
+
+abbrev pub aboveAddress : ℕ → ℕ
+aboveAddress n = n / 131072
+
 abbrev pub wordHead : ℕ → Relocation → ℕ
-wordHead a Plain = headOf 5 a
-wordHead a (External k) = headOf 6 (a + 131072 * k)
-wordHead a (Unread type) = headOf 7 (a + 131072 * type)
+wordHead a Plain = headOf plainWord a
+wordHead a (External k) = headOf reference (addressed a k)
+wordHead a (Unread type) = headOf unreadWord (addressed a type)
 
 unfoldable pub partHead : Part → ℕ
-partHead (EntryPart e) = headOf (cond (e .relocated) 2 1) (e .value + 65536 * e .parameters)
-partHead (ExternalPart x) = 3
-partHead (BlockPart offset count) = headOf 4 (offset + 65536 * count)
+partHead (EntryPart e) = headOf (cond (e .relocated) relocatedEntry absoluteEntry) (pair (e .value) (e .parameters))
+partHead (ExternalPart x) = external
+partHead (BlockPart offset count) = headOf block (pair offset count)
 partHead (WordPart a w) = wordHead a (w .relocation)
 
 unfoldable pub partBody : Part → ℕ
@@ -42,21 +90,17 @@ partBody (WordPart a w) = w .text
 abbrev pub noPart : Part
 noPart = BlockPart 0 0
 
--- sixteen bits from bit 0 on, and from a bit further up
-abbrev pub low16 : ℕ → ℕ
-low16 n = n % 65536
-
 unfoldable pub partOf : ℕ → ℕ → Part
 partOf head body =
-    let kind = head % 8 in
-    let n = head / 8 in
-    cond (eqb kind 1) (EntryPart (entry body (low16 n) false (low16 (n / 65536))))
-    (cond (eqb kind 2) (EntryPart (entry body (low16 n) true (low16 (n / 65536))))
-    (cond (eqb kind 3) (ExternalPart body)
-    (cond (eqb kind 4) (BlockPart (low16 n) (low16 (n / 65536)))
-    (cond (eqb kind 5) (WordPart (n % 131072) (codeWord body Plain))
-    (cond (eqb kind 6) (WordPart (n % 131072) (codeWord body (External (low16 (n / 131072)))))
-    (cond (eqb kind 7) (WordPart (n % 131072) (codeWord body (Unread (low16 (n / 131072))))) noPart))))))
+    let kind = kindOf head in
+    let n = numbersOf head in
+    cond (eqb kind absoluteEntry) (EntryPart (entry body (low16 n) false (low16 (n / 65536))))
+    (cond (eqb kind relocatedEntry) (EntryPart (entry body (low16 n) true (low16 (n / 65536))))
+    (cond (eqb kind external) (ExternalPart body)
+    (cond (eqb kind block) (BlockPart (low16 n) (low16 (n / 65536)))
+    (cond (eqb kind plainWord) (WordPart (address n) (codeWord body Plain))
+    (cond (eqb kind reference) (WordPart (address n) (codeWord body (External (low16 (aboveAddress n)))))
+    (cond (eqb kind unreadWord) (WordPart (address n) (codeWord body (Unread (low16 (aboveAddress n))))) noPart))))))
 
 -- ---- rows: kind and line in the first cell, start and end of a range in the second
 
@@ -94,6 +138,12 @@ startIn rows i = bodyIn rows i % 65536
 
 abbrev pub endIn : List ℕ → ℕ → ℕ
 endIn rows i = bodyIn rows i / 65536
+
+-- the rows of the section of row i: so many, from the first on
+pub record RowsOf (rows : List ℕ) (i : ℕ) (r : Section) : Type 0 where
+  pub first : r .first ≡ startIn rows i
+  pub count : r .count ≡ endIn rows i - startIn rows i
+  pub low : r .first ≤ 65535
 
 -- ---- from the tables to what the file holds
 

@@ -7,7 +7,7 @@ use Rattle.image.proofs.linked_word.Tie as tie
 use Rattle.image.proofs.linked_word.Reads as reads
 use Rattle.image.proofs.linked_word.Lts as lts
 use Rattle.image.proofs.complete.Reads as complete-reads
-use Rattle.image.proofs.value_of.Reads as value-of-reads
+use Rattle.state.proofs.table.value_of.Reads as value-of-reads
 use Rattle.state.proofs.words.text.Reads as text-reads
 
 text-requires : tie.Need-text-requires

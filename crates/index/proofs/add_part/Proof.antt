@@ -1,6 +1,6 @@
 use mathlib.Core.Path.{sym, ap, _∙_}
 use borrow.Author.Tests.{not-true, not-false}
-use Rattle.parts.specs.Cells.{isEntry}
+use Rattle.tables.specs.Heads.{isEntry}
 use Rattle.index.proofs.FillLaws.{part-other, part-again, part-new}
 use borrow.Author.Needs.{needs}
 use Rattle.index.proofs.add_part.Statement.{statement}

@@ -20,7 +20,7 @@ same-length : tie.Need-same-length
 same-length c = search needs
 
 returns : tie.Need-returns
-returns c = no-room (decode (c .before .before .before .before .before .before .before .args .state .now)) (partsOf (c .before .before .before .before .before .before .before .args .parts .now)) (c .before .before .before .next-address .ensures) (c .before .before .survey .ensures .length-is) (c .before .before .before .before .before .before .before .pre .1) (c .if1 .taken)
+returns c = no-room (decode (c .before .before .before .before .before .before .before .args .state .now)) (partsOf (c .before .before .before .before .before .before .before .args .parts .now)) (c .before .before .before .before .before .before .before .pre .0) (c .before .before .before .before .before .before .before .pre .1 .tidy .full) (c .before .before .before .next-address .ensures) (c .before .before .survey .ensures .length-is) (c .before .before .before .before .before .before .before .pre .1) (c .if1 .taken)
 
 lay-requires : tie.Need-lay-requires
 lay-requires c κs = (omega (arith, c .before .before .before .before .next-address .ensures, c .before .before .before .before .before .before .before .before .pre .1 .tidy .low), c .before .before .before .before .before .before .before .before .pre .1)
@@ -29,7 +29,7 @@ same-length-2 : tie.Need-same-length-2
 same-length-2 c = omega (arith, c .before .before .before .lay .ensures .good .long, c .before .before .before .before .before .before .before .before .before .before .before .before .pre .1 .long)
 
 returns-2 : tie.Need-returns-2
-returns-2 c = placed-twice (decode (c .before .before .before .before .before .before .before .before .before .before .before .before .args .state .now)) (partsOf (c .before .before .before .before .before .before .before .before .before .before .before .before .args .parts .now)) (c .before .before .before .before .before .before .before .before .next-address .ensures) (c .before .before .before .before .before .before .before .survey .ensures .length-is) (c .before .before .before .before .before .if1 .left) (c .before .before .before .lay .ensures) (c .if2 .taken)
+returns-2 c = placed-twice (decode (c .before .before .before .before .before .before .before .before .before .before .before .before .args .state .now)) (partsOf (c .before .before .before .before .before .before .before .before .before .before .before .before .args .parts .now)) (c .before .before .before .before .before .before .before .before .before .before .before .before .pre .0) (c .before .before .before .before .before .before .before .before .before .before .before .before .pre .1 .tidy .full) (c .before .before .before .before .before .before .before .before .next-address .ensures) (c .before .before .before .before .before .before .before .survey .ensures .length-is) (c .before .before .before .before .before .if1 .left) (c .before .before .before .lay .ensures) (c .if2 .taken)
 
 bad-arguments-requires : tie.Need-bad-arguments-requires
 bad-arguments-requires c κs = search needs
@@ -38,7 +38,7 @@ same-length-3 : tie.Need-same-length-3
 same-length-3 c = omega (arith, c .before .before .before .before .before .lay .ensures .good .long, c .before .before .before .before .before .before .before .before .before .before .before .before .before .before .pre .1 .long)
 
 returns-3 : tie.Need-returns-3
-returns-3 c = bad-argument (decode (c .before .before .before .before .before .before .before .before .before .before .before .before .before .before .args .state .now)) (partsOf (c .before .before .before .before .before .before .before .before .before .before .before .before .before .before .args .parts .now)) (c .before .before .before .before .before .before .before .before .before .before .next-address .ensures) (c .before .before .before .before .before .before .before .before .before .survey .ensures .length-is) (c .before .before .before .before .before .before .before .if1 .left) (c .before .before .before .before .before .lay .ensures) (c .before .before .if2 .left) (c .before .before .before .before .before .before .before .before .before .survey .ensures .externals-is) (c .before .bad-arguments .ensures) (c .if3 .taken)
+returns-3 c = bad-argument (decode (c .before .before .before .before .before .before .before .before .before .before .before .before .before .before .args .state .now)) (partsOf (c .before .before .before .before .before .before .before .before .before .before .before .before .before .before .args .parts .now)) (c .before .before .before .before .before .before .before .before .before .before .before .before .before .before .pre .0) (c .before .before .before .before .before .before .before .before .before .before .before .before .before .before .pre .1 .tidy .full) (c .before .before .before .before .before .before .before .before .before .before .next-address .ensures) (c .before .before .before .before .before .before .before .before .before .survey .ensures .length-is) (c .before .before .before .before .before .before .before .if1 .left) (c .before .before .before .before .before .lay .ensures) (c .before .before .if2 .left) (c .before .before .before .before .before .before .before .before .before .survey .ensures .externals-is) (c .before .bad-arguments .ensures) (c .if3 .taken)
 
 out-of-range-requires : tie.Need-out-of-range-requires
 out-of-range-requires c κs = omega (arith, c .before .before .before .before .before .before .before .before .before .before .next-address .ensures, c .before .before .before .before .before .before .before .before .before .before .before .before .before .before .pre .1 .tidy .low)
@@ -47,7 +47,7 @@ same-length-4 : tie.Need-same-length-4
 same-length-4 c = omega (arith, c .before .before .before .before .before .before .before .lay .ensures .good .long, c .before .before .before .before .before .before .before .before .before .before .before .before .before .before .before .before .pre .1 .long)
 
 returns-4 : tie.Need-returns-4
-returns-4 c = over-range (decode (c .before .before .before .before .before .before .before .before .before .before .before .before .before .before .before .before .args .state .now)) (partsOf (c .before .before .before .before .before .before .before .before .before .before .before .before .before .before .before .before .args .parts .now)) (c .before .before .before .before .before .before .before .before .before .before .before .before .next-address .ensures) (c .before .before .before .before .before .before .before .before .before .before .before .survey .ensures .length-is) (c .before .before .before .before .before .before .before .before .before .if1 .left) (c .before .before .before .before .before .before .before .lay .ensures) (c .before .before .before .before .if2 .left) (c .before .before .before .before .before .before .before .before .before .before .before .survey .ensures .externals-is) (c .before .before .before .bad-arguments .ensures) (c .before .before .if3 .left) (c .before .out-of-range .ensures) (c .if4 .taken)
+returns-4 c = over-range (decode (c .before .before .before .before .before .before .before .before .before .before .before .before .before .before .before .before .args .state .now)) (partsOf (c .before .before .before .before .before .before .before .before .before .before .before .before .before .before .before .before .args .parts .now)) (c .before .before .before .before .before .before .before .before .before .before .before .before .before .before .before .before .pre .0) (c .before .before .before .before .before .before .before .before .before .before .before .before .before .before .before .before .pre .1 .tidy .full) (c .before .before .before .before .before .before .before .before .before .before .before .before .next-address .ensures) (c .before .before .before .before .before .before .before .before .before .before .before .survey .ensures .length-is) (c .before .before .before .before .before .before .before .before .before .if1 .left) (c .before .before .before .before .before .before .before .lay .ensures) (c .before .before .before .before .if2 .left) (c .before .before .before .before .before .before .before .before .before .before .before .survey .ensures .externals-is) (c .before .before .before .bad-arguments .ensures) (c .before .before .if3 .left) (c .before .out-of-range .ensures) (c .if4 .taken)
 
 enter-requires : tie.Need-enter-requires
 enter-requires c κs = (omega (arith, c .before .before .before .before .before .before .before .before .before .before .before .before .before .next-address .ensures, c .before .before .before .before .before .before .before .before .before .before .before .before .before .before .before .before .before .pre .1 .tidy .low), (sym (c .before .before .out-of-range .ensures) ∙ c .before .if4 .left, c .before .before .before .before .before .before .before .before .lay .ensures .good))
@@ -56,22 +56,22 @@ same-length-5 : tie.Need-same-length-5
 same-length-5 c = omega (arith, c .before .before .before .enter .ensures .good .long, c .before .before .before .before .before .before .before .before .before .before .before .before .before .before .before .before .before .before .before .before .before .pre .1 .long)
 
 returns-5 : tie.Need-returns-5
-returns-5 c = entry-fault (decode (c .before .before .before .before .before .before .before .before .before .before .before .before .before .before .before .before .before .before .before .before .before .args .state .now)) (partsOf (c .before .before .before .before .before .before .before .before .before .before .before .before .before .before .before .before .before .before .before .before .before .args .parts .now)) (c .before .before .before .before .before .before .before .before .before .before .before .before .before .before .before .before .before .next-address .ensures) (c .before .before .before .before .before .before .before .before .before .before .before .before .before .before .before .before .survey .ensures .length-is) (c .before .before .before .before .before .before .before .before .before .before .before .before .before .before .if1 .left) (c .before .before .before .before .before .before .before .before .before .before .before .before .lay .ensures) (c .before .before .before .before .before .before .before .before .before .if2 .left) (c .before .before .before .before .before .before .before .before .before .before .before .before .before .before .before .before .survey .ensures .externals-is) (c .before .before .before .before .before .before .before .before .bad-arguments .ensures) (c .before .before .before .before .before .before .before .if3 .left) (c .before .before .before .before .before .before .out-of-range .ensures) (c .before .before .before .before .before .if4 .left) (c .before .before .before .enter .ensures) (c .if5 .taken)
+returns-5 c = entry-fault (decode (c .before .before .before .before .before .before .before .before .before .before .before .before .before .before .before .before .before .before .before .before .before .args .state .now)) (partsOf (c .before .before .before .before .before .before .before .before .before .before .before .before .before .before .before .before .before .before .before .before .before .args .parts .now)) (c .before .before .before .before .before .before .before .before .before .before .before .before .before .before .before .before .before .before .before .before .before .pre .0) (c .before .before .before .before .before .before .before .before .before .before .before .before .before .before .before .before .before .before .before .before .before .pre .1 .tidy .full) (c .before .before .before .before .before .before .before .before .before .before .before .before .before .before .before .before .before .next-address .ensures) (c .before .before .before .before .before .before .before .before .before .before .before .before .before .before .before .before .survey .ensures .length-is) (c .before .before .before .before .before .before .before .before .before .before .before .before .before .before .if1 .left) (c .before .before .before .before .before .before .before .before .before .before .before .before .lay .ensures) (c .before .before .before .before .before .before .before .before .before .if2 .left) (c .before .before .before .before .before .before .before .before .before .before .before .before .before .before .before .before .survey .ensures .externals-is) (c .before .before .before .before .before .before .before .before .bad-arguments .ensures) (c .before .before .before .before .before .before .before .if3 .left) (c .before .before .before .before .before .before .out-of-range .ensures) (c .before .before .before .before .before .if4 .left) (c .before .before .before .enter .ensures) (c .if5 .taken)
 
 guesses-requires : tie.Need-guesses-requires
 guesses-requires c κs = c .before .before .before .before .enter .ensures .good
 
 mention-all-requires : tie.Need-mention-all-requires
-mention-all-requires c κs = (c .before .before .before .before .before .before .before .before .before .before .before .before .before .before .before .before .before .before .before .before .before .before .before .before .pre .0, c .before .before .before .before .before .before .enter .ensures .good)
+mention-all-requires c κs = (c .before .before .before .before .before .before .before .before .before .before .before .before .before .before .before .before .before .before .before .before .before .before .before .before .pre .0 .few-externals, c .before .before .before .before .before .before .enter .ensures .good)
 
 same-length-6 : tie.Need-same-length-6
 same-length-6 c = omega (arith, c .before .before .before .before .mention-all .ensures .good .long, c .before .before .before .before .before .before .before .before .before .before .before .before .before .before .before .before .before .before .before .before .before .before .before .before .before .before .before .before .before .pre .1 .long)
 
 returns-6 : tie.Need-returns-6
-returns-6 c = table-full (decode (c .before .before .before .before .before .before .before .before .before .before .before .before .before .before .before .before .before .before .before .before .before .before .before .before .before .before .before .before .before .args .state .now)) (partsOf (c .before .before .before .before .before .before .before .before .before .before .before .before .before .before .before .before .before .before .before .before .before .before .before .before .before .before .before .before .before .args .parts .now)) (c .before .before .before .before .before .before .before .before .before .before .before .before .before .before .before .before .before .before .before .before .before .before .before .before .before .next-address .ensures) (c .before .before .before .before .before .before .before .before .before .before .before .before .before .before .before .before .before .before .before .before .before .before .before .before .survey .ensures .length-is) (c .before .before .before .before .before .before .before .before .before .before .before .before .before .before .before .before .before .before .before .before .before .before .if1 .left) (c .before .before .before .before .before .before .before .before .before .before .before .before .before .before .before .before .before .before .before .before .lay .ensures) (c .before .before .before .before .before .before .before .before .before .before .before .before .before .before .before .before .before .if2 .left) (c .before .before .before .before .before .before .before .before .before .before .before .before .before .before .before .before .before .before .before .before .before .before .before .before .survey .ensures .externals-is) (c .before .before .before .before .before .before .before .before .before .before .before .before .before .before .before .before .bad-arguments .ensures) (c .before .before .before .before .before .before .before .before .before .before .before .before .before .before .before .if3 .left) (c .before .before .before .before .before .before .before .before .before .before .before .before .before .before .out-of-range .ensures) (c .before .before .before .before .before .before .before .before .before .before .before .before .before .if4 .left) (c .before .before .before .before .before .before .before .before .before .before .before .enter .ensures) (c .before .before .before .before .before .before .before .before .if5 .left) (c .before .before .before .before .mention-all .ensures) (c .if6 .taken)
+returns-6 c = table-full (decode (c .before .before .before .before .before .before .before .before .before .before .before .before .before .before .before .before .before .before .before .before .before .before .before .before .before .before .before .before .before .args .state .now)) (partsOf (c .before .before .before .before .before .before .before .before .before .before .before .before .before .before .before .before .before .before .before .before .before .before .before .before .before .before .before .before .before .args .parts .now)) (c .before .before .before .before .before .before .before .before .before .before .before .before .before .before .before .before .before .before .before .before .before .before .before .before .before .before .before .before .before .pre .0) (c .before .before .before .before .before .before .before .before .before .before .before .before .before .before .before .before .before .before .before .before .before .before .before .before .before .before .before .before .before .pre .1 .tidy .full) (c .before .before .before .before .before .before .before .before .before .before .before .before .before .before .before .before .before .before .before .before .before .before .before .before .before .next-address .ensures) (c .before .before .before .before .before .before .before .before .before .before .before .before .before .before .before .before .before .before .before .before .before .before .before .before .survey .ensures .length-is) (c .before .before .before .before .before .before .before .before .before .before .before .before .before .before .before .before .before .before .before .before .before .before .if1 .left) (c .before .before .before .before .before .before .before .before .before .before .before .before .before .before .before .before .before .before .before .before .lay .ensures) (c .before .before .before .before .before .before .before .before .before .before .before .before .before .before .before .before .before .if2 .left) (c .before .before .before .before .before .before .before .before .before .before .before .before .before .before .before .before .before .before .before .before .before .before .before .before .survey .ensures .externals-is) (c .before .before .before .before .before .before .before .before .before .before .before .before .before .before .before .before .bad-arguments .ensures) (c .before .before .before .before .before .before .before .before .before .before .before .before .before .before .before .if3 .left) (c .before .before .before .before .before .before .before .before .before .before .before .before .before .before .out-of-range .ensures) (c .before .before .before .before .before .before .before .before .before .before .before .before .before .if4 .left) (c .before .before .before .before .before .before .before .before .before .before .before .enter .ensures) (c .before .before .before .before .before .before .before .before .if5 .left) (c .before .before .before .before .mention-all .ensures) (c .if6 .taken)
 
 link-requires : tie.Need-link-requires
-link-requires c κs = (omega (arith, c .before .before .before .before .before .before .before .before .before .before .before .before .before .before .before .before .before .before .before .before .before .before .before .before .before .before .before .next-address .ensures, c .before .before .before .before .before .before .before .before .before .before .before .before .before .before .before .before .before .before .before .before .before .before .before .before .before .before .before .before .before .before .before .pre .1 .tidy .low), (c .before .before .before .before .before .before .mention-all .ensures .good, can-link (decode (c .before .before .before .before .before .before .before .before .before .before .before .before .before .before .before .before .before .before .before .before .before .before .before .before .before .before .before .before .before .before .before .args .state .now)) (partsOf (c .before .before .before .before .before .before .before .before .before .before .before .before .before .before .before .before .before .before .before .before .before .before .before .before .before .before .before .before .before .before .before .args .parts .now)) (c .before .before .before .before .before .before .before .before .before .before .before .before .before .before .before .before .before .before .before .before .before .before .before .before .before .before .before .next-address .ensures) (c .before .before .before .before .before .before .before .before .before .before .before .before .before .before .before .before .before .before .before .before .before .before .before .before .before .before .survey .ensures .length-is) (c .before .before .before .before .before .before .before .before .before .before .before .before .before .before .before .before .before .before .before .before .before .before .before .before .if1 .left) (c .before .before .before .before .before .before .before .before .before .before .before .before .before .before .before .before .before .before .before .before .before .before .lay .ensures) (c .before .before .before .before .before .before .before .before .before .before .before .before .before .before .before .before .before .before .before .if2 .left) (c .before .before .before .before .before .before .before .before .before .before .before .before .before .before .before .before .before .before .before .before .before .before .before .before .before .before .survey .ensures .externals-is) (c .before .before .before .before .before .before .before .before .before .before .before .before .before .before .before .before .before .before .bad-arguments .ensures) (c .before .before .before .before .before .before .before .before .before .before .before .before .before .before .before .before .before .if3 .left) (c .before .before .before .before .before .before .before .before .before .before .before .before .before .before .before .before .out-of-range .ensures) (c .before .before .before .before .before .before .before .before .before .before .before .before .before .before .before .if4 .left) (c .before .before .before .before .before .before .before .before .before .before .before .before .before .enter .ensures) (c .before .before .before .before .before .before .before .before .before .before .if5 .left) (c .before .before .before .before .before .before .mention-all .ensures) (c .before .before .if6 .left) (c .before .before .before .before .before .before .before .before .before .before .before .before .before .before .before .before .before .before .before .before .before .before .before .before .before .before .before .before .before .before .before .pre .0)))
+link-requires c κs = (omega (arith, c .before .before .before .before .before .before .before .before .before .before .before .before .before .before .before .before .before .before .before .before .before .before .before .before .before .before .before .next-address .ensures, c .before .before .before .before .before .before .before .before .before .before .before .before .before .before .before .before .before .before .before .before .before .before .before .before .before .before .before .before .before .before .before .pre .1 .tidy .low), (c .before .before .before .before .before .before .mention-all .ensures .good, can-link (decode (c .before .before .before .before .before .before .before .before .before .before .before .before .before .before .before .before .before .before .before .before .before .before .before .before .before .before .before .before .before .before .before .args .state .now)) (partsOf (c .before .before .before .before .before .before .before .before .before .before .before .before .before .before .before .before .before .before .before .before .before .before .before .before .before .before .before .before .before .before .before .args .parts .now)) (c .before .before .before .before .before .before .before .before .before .before .before .before .before .before .before .before .before .before .before .before .before .before .before .before .before .before .before .before .before .before .before .pre .0) (c .before .before .before .before .before .before .before .before .before .before .before .before .before .before .before .before .before .before .before .before .before .before .before .before .before .before .before .before .before .before .before .pre .1 .tidy .full) (c .before .before .before .before .before .before .before .before .before .before .before .before .before .before .before .before .before .before .before .before .before .before .before .before .before .before .before .next-address .ensures) (c .before .before .before .before .before .before .before .before .before .before .before .before .before .before .before .before .before .before .before .before .before .before .before .before .before .before .survey .ensures .length-is) (c .before .before .before .before .before .before .before .before .before .before .before .before .before .before .before .before .before .before .before .before .before .before .before .before .if1 .left) (c .before .before .before .before .before .before .before .before .before .before .before .before .before .before .before .before .before .before .before .before .before .before .lay .ensures) (c .before .before .before .before .before .before .before .before .before .before .before .before .before .before .before .before .before .before .before .if2 .left) (c .before .before .before .before .before .before .before .before .before .before .before .before .before .before .before .before .before .before .before .before .before .before .before .before .before .before .survey .ensures .externals-is) (c .before .before .before .before .before .before .before .before .before .before .before .before .before .before .before .before .before .before .bad-arguments .ensures) (c .before .before .before .before .before .before .before .before .before .before .before .before .before .before .before .before .before .if3 .left) (c .before .before .before .before .before .before .before .before .before .before .before .before .before .before .before .before .out-of-range .ensures) (c .before .before .before .before .before .before .before .before .before .before .before .before .before .before .before .if4 .left) (c .before .before .before .before .before .before .before .before .before .before .before .before .before .enter .ensures) (c .before .before .before .before .before .before .before .before .before .before .if5 .left) (c .before .before .before .before .before .before .mention-all .ensures) (c .before .before .if6 .left) (c .before .before .before .before .before .before .before .before .before .before .before .before .before .before .before .before .before .before .before .before .before .before .before .before .before .before .before .before .before .before .before .pre .0 .few-externals)))
 
 set-next-requires : tie.Need-set-next-requires
 set-next-requires c κs = (c .before .before .before .link .ensures .good, c .before .before .before .before .before .before .before .before .before .before .before .before .before .before .before .before .before .before .before .before .before .before .before .before .before .before .before .before .if1 .left)
@@ -80,7 +80,7 @@ same-length-7 : tie.Need-same-length-7
 same-length-7 c = omega (arith, c .before .before .set-next .ensures .good .long, c .before .before .before .before .before .before .before .before .before .before .before .before .before .before .before .before .before .before .before .before .before .before .before .before .before .before .before .before .before .before .before .before .before .before .before .before .before .before .pre .1 .long)
 
 returns-7 : tie.Need-returns-7
-returns-7 c = all-done (decode (c .before .before .before .before .before .before .before .before .before .before .before .before .before .before .before .before .before .before .before .before .before .before .before .before .before .before .before .before .before .before .before .before .before .before .before .before .before .before .args .state .now)) (partsOf (c .before .before .before .before .before .before .before .before .before .before .before .before .before .before .before .before .before .before .before .before .before .before .before .before .before .before .before .before .before .before .before .before .before .before .before .before .before .before .args .parts .now)) (c .before .before .before .before .before .before .before .before .before .before .before .before .before .before .before .before .before .before .before .before .before .before .before .before .before .before .before .before .before .before .before .before .before .before .next-address .ensures) (c .before .before .before .before .before .before .before .before .before .before .before .before .before .before .before .before .before .before .before .before .before .before .before .before .before .before .before .before .before .before .before .before .before .survey .ensures .length-is) (c .before .before .before .before .before .before .before .before .before .before .before .before .before .before .before .before .before .before .before .before .before .before .before .before .before .before .before .before .before .before .before .if1 .left) (c .before .before .before .before .before .before .before .before .before .before .before .before .before .before .before .before .before .before .before .before .before .before .before .before .before .before .before .before .before .lay .ensures) (c .before .before .before .before .before .before .before .before .before .before .before .before .before .before .before .before .before .before .before .before .before .before .before .before .before .before .if2 .left) (c .before .before .before .before .before .before .before .before .before .before .before .before .before .before .before .before .before .before .before .before .before .before .before .before .before .before .before .before .before .before .before .before .before .survey .ensures .externals-is) (c .before .before .before .before .before .before .before .before .before .before .before .before .before .before .before .before .before .before .before .before .before .before .before .before .before .bad-arguments .ensures) (c .before .before .before .before .before .before .before .before .before .before .before .before .before .before .before .before .before .before .before .before .before .before .before .before .if3 .left) (c .before .before .before .before .before .before .before .before .before .before .before .before .before .before .before .before .before .before .before .before .before .before .before .out-of-range .ensures) (c .before .before .before .before .before .before .before .before .before .before .before .before .before .before .before .before .before .before .before .before .before .before .if4 .left) (c .before .before .before .before .before .before .before .before .before .before .before .before .before .before .before .before .before .before .before .before .enter .ensures) (c .before .before .before .before .before .before .before .before .before .before .before .before .before .before .before .before .before .if5 .left) (c .before .before .before .before .before .before .before .before .before .before .before .before .before .mention-all .ensures) (c .before .before .before .before .before .before .before .before .before .if6 .left) (c .before .before .before .before .before .before .link .ensures) (c .before .before .set-next .ensures)
+returns-7 c = all-done (decode (c .before .before .before .before .before .before .before .before .before .before .before .before .before .before .before .before .before .before .before .before .before .before .before .before .before .before .before .before .before .before .before .before .before .before .before .before .before .before .args .state .now)) (partsOf (c .before .before .before .before .before .before .before .before .before .before .before .before .before .before .before .before .before .before .before .before .before .before .before .before .before .before .before .before .before .before .before .before .before .before .before .before .before .before .args .parts .now)) (c .before .before .before .before .before .before .before .before .before .before .before .before .before .before .before .before .before .before .before .before .before .before .before .before .before .before .before .before .before .before .before .before .before .before .before .before .before .before .pre .0) (c .before .before .before .before .before .before .before .before .before .before .before .before .before .before .before .before .before .before .before .before .before .before .before .before .before .before .before .before .before .before .before .before .before .before .before .before .before .before .pre .1 .tidy .full) (c .before .before .before .before .before .before .before .before .before .before .before .before .before .before .before .before .before .before .before .before .before .before .before .before .before .before .before .before .before .before .before .before .before .before .next-address .ensures) (c .before .before .before .before .before .before .before .before .before .before .before .before .before .before .before .before .before .before .before .before .before .before .before .before .before .before .before .before .before .before .before .before .before .survey .ensures .length-is) (c .before .before .before .before .before .before .before .before .before .before .before .before .before .before .before .before .before .before .before .before .before .before .before .before .before .before .before .before .before .before .before .if1 .left) (c .before .before .before .before .before .before .before .before .before .before .before .before .before .before .before .before .before .before .before .before .before .before .before .before .before .before .before .before .before .lay .ensures) (c .before .before .before .before .before .before .before .before .before .before .before .before .before .before .before .before .before .before .before .before .before .before .before .before .before .before .if2 .left) (c .before .before .before .before .before .before .before .before .before .before .before .before .before .before .before .before .before .before .before .before .before .before .before .before .before .before .before .before .before .before .before .before .before .survey .ensures .externals-is) (c .before .before .before .before .before .before .before .before .before .before .before .before .before .before .before .before .before .before .before .before .before .before .before .before .before .bad-arguments .ensures) (c .before .before .before .before .before .before .before .before .before .before .before .before .before .before .before .before .before .before .before .before .before .before .before .before .if3 .left) (c .before .before .before .before .before .before .before .before .before .before .before .before .before .before .before .before .before .before .before .before .before .before .before .out-of-range .ensures) (c .before .before .before .before .before .before .before .before .before .before .before .before .before .before .before .before .before .before .before .before .before .before .if4 .left) (c .before .before .before .before .before .before .before .before .before .before .before .before .before .before .before .before .before .before .before .before .enter .ensures) (c .before .before .before .before .before .before .before .before .before .before .before .before .before .before .before .before .before .if5 .left) (c .before .before .before .before .before .before .before .before .before .before .before .before .before .mention-all .ensures) (c .before .before .before .before .before .before .before .before .before .if6 .left) (c .before .before .before .before .before .before .link .ensures) (c .before .before .set-next .ensures)
 
 pub place-spec : {M : Type 1} → statement M
 place-spec =

@@ -8,8 +8,8 @@ use Rattle.rules.specs.Text.{any}
 use Rattle.rules.specs.Placing.{entriesIn}
 use Rattle.state.specs.Layout.{decode}
 use Rattle.state.specs.Good.{Good}
-use Rattle.parts.specs.Cells.{partsFrom}
-use Rattle.parts.specs.Passes.{overRange}
+use Rattle.tables.specs.Heads.{partsFrom}
+use Rattle.placing.specs.Passes.{overRange}
 use Rattle.placing.specs.Effects.{Entering}
 use Rattle.placing.proofs.EntryLaws.{rest-in-range, enter-start, enter-next, enter-stop, enter-done}
 use Rattle.placing.proofs.symbols.enter.Statement.{statement}

@@ -7,7 +7,7 @@ use Prim.Native.Nat.{_-_, _≤_}
 use Rattle.rules.specs.Placing.{codeIn}
 use Rattle.state.specs.Layout.{decode}
 use Rattle.state.specs.Good.{Good}
-use Rattle.parts.specs.Cells.{partsFrom}
+use Rattle.tables.specs.Heads.{partsFrom}
 use Rattle.placing.specs.Effects.{Laid, Laying}
 use Rattle.placing.proofs.WordLaws.{lay-skip, lay-clash, lay-put, lay-done}
 use Rattle.placing.proofs.words.lay.Statement.{statement}
@@ -43,6 +43,9 @@ shared-slice-read-text c = omega arith
 add-i : tie.Need-add-i Inv-loop μ-loop
 add-i c = omega arith
 
+is-word-requires : tie.Need-is-word-requires Inv-loop μ-loop
+is-word-requires c κs = search needs
+
 address-requires : tie.Need-address-requires Inv-loop μ-loop
 address-requires c κs = search needs
 
@@ -50,28 +53,28 @@ add-at : tie.Need-add-at Inv-loop μ-loop
 add-at c = omega (arith, c .address .ensures)
 
 is-placed-requires : tie.Need-is-placed-requires Inv-loop μ-loop
-is-placed-requires c κs = c .before .before .before .before .before .before .loop .inv .2
+is-placed-requires c κs = c .before .before .before .before .before .before .before .loop .inv .2
 
 same-length : tie.Need-same-length Inv-loop μ-loop
-same-length c = c .before .before .before .before .before .before .before .before .loop .inv .3
+same-length c = c .before .before .before .before .before .before .before .before .before .loop .inv .3
 
 returns : tie.Need-returns Inv-loop μ-loop
-returns c = let l = c .before .before .before .before .before .before .before .before .loop in let a = c .before .before .before .before .before .before .before .before .before .before .before .args in record { clash-is = lay-clash (a .base) (codeIn (partsFrom (a .parts .now) 0)) (decode (a .state .now)) (a .parts .now) (l .i) (omega arith) (decode (l .state)) (c .before .before .before .before .if1 .taken) (l .inv .4) (c .before .before .before .address .result) (c .before .before .before .address .ensures) (c .before .is-placed .result) (c .before .is-placed .ensures) (c .if2 .taken); good = l .inv .2; done = λ e. never refl e }
+returns c = let l = c .before .before .before .before .before .before .before .before .before .loop in let a = c .before .before .before .before .before .before .before .before .before .before .before .before .args in record { clash-is = lay-clash (a .base) (codeIn (partsFrom (a .parts .now) 0)) (decode (a .state .now)) (a .parts .now) (l .i) (omega arith) (decode (l .state)) (sym (c .before .before .before .before .before .is-word .ensures) ∙ c .before .before .before .before .if1 .taken) (l .inv .4) (c .before .before .before .address .result) (c .before .before .before .address .ensures) (c .before .is-placed .result) (c .before .is-placed .ensures) (c .if2 .taken); good = l .inv .2; done = λ e. never refl e }
 
 put-plain-requires : tie.Need-put-plain-requires Inv-loop μ-loop
-put-plain-requires c κs = c .before .before .before .before .before .before .before .before .before .loop .inv .2
+put-plain-requires c κs = c .before .before .before .before .before .before .before .before .before .before .loop .inv .2
 
 loop-less : tie.Need-loop-less Inv-loop μ-loop
 loop-less c = omega arith
 
 loop-again : tie.Need-loop-again Inv-loop μ-loop
-loop-again c = let l = c .before .before .before .before .before .before .before .before .before .before .before .before .loop in let a = c .before .before .before .before .before .before .before .before .before .before .before .before .before .before .before .args in (omega arith, refl, c .before .before .put-plain .ensures .good, omega (arith, c .before .before .put-plain .ensures .good .long, l .inv .2 .long, l .inv .3), lay-put (a .base) (codeIn (partsFrom (a .parts .now) 0)) (decode (a .state .now)) (a .parts .now) (l .i) (omega arith) (decode (l .state)) (c .before .before .before .before .before .before .before .before .if1 .taken) (l .inv .4) (c .before .before .before .before .before .before .before .address .result) (c .before .before .before .before .before .before .before .address .ensures) (c .before .before .before .before .before .is-placed .result) (c .before .before .before .before .before .is-placed .ensures) (c .before .before .before .before .if2 .left) (decode (c .before .before .put-plain .last .0)) (c .before .before .put-plain .ensures .is))
+loop-again c = let l = c .before .before .before .before .before .before .before .before .before .before .before .before .before .loop in let a = c .before .before .before .before .before .before .before .before .before .before .before .before .before .before .before .before .args in (omega arith, refl, c .before .before .put-plain .ensures .good, omega (arith, c .before .before .put-plain .ensures .good .long, l .inv .2 .long, l .inv .3), lay-put (a .base) (codeIn (partsFrom (a .parts .now) 0)) (decode (a .state .now)) (a .parts .now) (l .i) (omega arith) (decode (l .state)) (sym (c .before .before .before .before .before .before .before .before .before .is-word .ensures) ∙ c .before .before .before .before .before .before .before .before .if1 .taken) (l .inv .4) (c .before .before .before .before .before .before .before .address .result) (c .before .before .before .before .before .before .before .address .ensures) (c .before .before .before .before .before .is-placed .result) (c .before .before .before .before .before .is-placed .ensures) (c .before .before .before .before .if2 .left) (decode (c .before .before .put-plain .last .0)) (c .before .before .put-plain .ensures .is))
 
 loop-less-2 : tie.Need-loop-less-2 Inv-loop μ-loop
 loop-less-2 c = omega arith
 
 loop-again-2 : tie.Need-loop-again-2 Inv-loop μ-loop
-loop-again-2 c = let l = c .before .before .before .before .loop in let a = c .before .before .before .before .before .before .before .args in (omega arith, refl, l .inv .2, l .inv .3, lay-skip (a .base) (codeIn (partsFrom (a .parts .now) 0)) (decode (a .state .now)) (a .parts .now) (l .i) (omega arith) (decode (l .state)) (c .if1 .left) (l .inv .4))
+loop-again-2 c = let l = c .before .before .before .before .before .loop in let a = c .before .before .before .before .before .before .before .before .args in (omega arith, refl, l .inv .2, l .inv .3, lay-skip (a .base) (codeIn (partsFrom (a .parts .now) 0)) (decode (a .state .now)) (a .parts .now) (l .i) (omega arith) (decode (l .state)) (sym (c .before .is-word .ensures) ∙ c .if1 .left) (l .inv .4))
 
 same-length-2 : tie.Need-same-length-2 Inv-loop μ-loop
 same-length-2 c = c .before .loop .inv .3
@@ -93,6 +96,7 @@ lay-spec =
     mul-text
     shared-slice-read-text
     add-i
+    is-word-requires
     address-requires
     add-at
     is-placed-requires

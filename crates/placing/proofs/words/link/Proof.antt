@@ -6,7 +6,7 @@ use Prim.Native.Nat.{ℕ, _-_, _≤_, _<_}
 use Rattle.rules.specs.Placing.{externalsIn, codeIn}
 use Rattle.state.specs.Layout.{decode}
 use Rattle.state.specs.Good.{Good}
-use Rattle.parts.specs.Cells.{partsFrom}
+use Rattle.tables.specs.Heads.{partsFrom}
 use Rattle.placing.specs.Effects.{Linking}
 use Rattle.placing.proofs.WordLaws.{link-number, link-skip, link-put, link-done}
 use Rattle.placing.proofs.words.link.Statement.{statement}
@@ -42,33 +42,36 @@ shared-slice-read-text c = omega arith
 add-i : tie.Need-add-i Inv-loop μ-loop
 add-i c = omega arith
 
+is-reference-requires : tie.Need-is-reference-requires Inv-loop μ-loop
+is-reference-requires c κs = search needs
+
 argument-requires : tie.Need-argument-requires Inv-loop μ-loop
 argument-requires c κs = search needs
 
 -- the external's number is one of the module's
 number : (c : tie.After-argument Inv-loop μ-loop) →
     let k : ℕ = c .argument .result in
-    (1 ≤ k) × (k ≤ length (externalsIn (partsFrom (c .before .before .before .before .before .before .before .before .args .parts .now) 0)))
+    (1 ≤ k) × (k ≤ length (externalsIn (partsFrom (c .before .before .before .before .before .before .before .before .before .args .parts .now) 0)))
 number c =
-    let l = c .before .before .before .before .before .loop in let a = c .before .before .before .before .before .before .before .before .args in
-    link-number (a .base) (a .t3) (length (externalsIn (partsFrom (a .parts .now) 0))) (codeIn (partsFrom (a .parts .now) 0)) (decode (a .state .now)) (a .parts .now) (l .i) (omega arith) (decode (l .state)) (l .inv .4) (c .before .if1 .taken) (c .argument .result) (c .argument .ensures)
+    let l = c .before .before .before .before .before .before .loop in let a = c .before .before .before .before .before .before .before .before .before .args in
+    link-number (a .base) (a .t3) (length (externalsIn (partsFrom (a .parts .now) 0))) (codeIn (partsFrom (a .parts .now) 0)) (decode (a .state .now)) (a .parts .now) (l .i) (omega arith) (decode (l .state)) (l .inv .4) (sym (c .before .before .is-reference .ensures) ∙ c .before .if1 .taken) (c .argument .result) (c .argument .ensures)
 
--- and its place is in the table
+-- and its position is in the table
 there : (c : tie.After-argument Inv-loop μ-loop) →
-    getD (c .before .before .before .before .before .before .before .before .args .t3) (c .argument .result - 1) 0 < length (decode (c .before .before .before .before .before .before .before .before .args .state .now) .symbols)
-there c = c .before .before .before .before .before .before .before .before .pre .1 .1 .there (c .argument .result - 1) (omega (arith, number c))
+    getD (c .before .before .before .before .before .before .before .before .before .args .t3) (c .argument .result - 1) 0 < length (decode (c .before .before .before .before .before .before .before .before .before .args .state .now) .symbols)
+there c = c .before .before .before .before .before .before .before .before .before .pre .1 .1 .there (c .argument .result - 1) (omega (arith, number c))
 
 sub-symbol : tie.Need-sub-symbol Inv-loop μ-loop
 sub-symbol c = omega (arith, number c)
 
 mul-symbol : tie.Need-mul-symbol Inv-loop μ-loop
-mul-symbol c = omega (arith, number c, c .before .before .before .before .before .before .before .before .pre .1 .1 .few)
+mul-symbol c = omega (arith, number c, c .before .before .before .before .before .before .before .before .before .pre .1 .1 .few)
 
 array-read-symbol : tie.Need-array-read-symbol Inv-loop μ-loop
-array-read-symbol c = omega (arith, number c, c .before .before .before .before .before .before .before .before .pre .1 .1 .few)
+array-read-symbol c = omega (arith, number c, c .before .before .before .before .before .before .before .before .before .pre .1 .1 .few)
 
 cast-symbol : tie.Need-cast-symbol Inv-loop μ-loop
-cast-symbol c = omega (arith, there c, c .before .before .before .before .before .before .before .before .pre .1 .0 .tidy .few)
+cast-symbol c = omega (arith, there c, c .before .before .before .before .before .before .before .before .before .pre .1 .0 .tidy .few)
 
 address-requires : tie.Need-address-requires Inv-loop μ-loop
 address-requires c κs = search needs
@@ -77,19 +80,19 @@ add-put-reference : tie.Need-add-put-reference Inv-loop μ-loop
 add-put-reference c = omega (arith, c .address .ensures)
 
 put-reference-requires : tie.Need-put-reference-requires Inv-loop μ-loop
-put-reference-requires c κs = let l = c .before .before .before .before .before .before .before .loop in (l .inv .2, omega (arith, there (c .before .before), ap length (l .inv .4 .table-is)))
+put-reference-requires c κs = let l = c .before .before .before .before .before .before .before .before .loop in (l .inv .2, omega (arith, there (c .before .before), ap length (l .inv .4 .table-is)))
 
 loop-less : tie.Need-loop-less Inv-loop μ-loop
 loop-less c = omega arith
 
 loop-again : tie.Need-loop-again Inv-loop μ-loop
-loop-again c = let l = c .before .before .before .before .before .before .before .before .before .before .loop in let a = c .before .before .before .before .before .before .before .before .before .before .before .before .before .args in (omega arith, refl, c .before .before .put-reference .ensures .good, omega (arith, c .before .before .put-reference .ensures .good .long, l .inv .2 .long, l .inv .3), link-put (a .base) (a .t3) (length (externalsIn (partsFrom (a .parts .now) 0))) (codeIn (partsFrom (a .parts .now) 0)) (decode (a .state .now)) (a .parts .now) (l .i) (omega arith) (decode (l .state)) (l .inv .4) (c .before .before .before .before .before .before .if1 .taken) (c .before .before .before .before .before .argument .result) (c .before .before .before .before .before .argument .ensures) (c .before .before .before .address .result) (c .before .before .before .address .ensures) (decode (c .before .before .put-reference .last .0)) (c .before .before .put-reference .ensures .is))
+loop-again c = let l = c .before .before .before .before .before .before .before .before .before .before .before .loop in let a = c .before .before .before .before .before .before .before .before .before .before .before .before .before .before .args in (omega arith, refl, c .before .before .put-reference .ensures .good, omega (arith, c .before .before .put-reference .ensures .good .long, l .inv .2 .long, l .inv .3), link-put (a .base) (a .t3) (length (externalsIn (partsFrom (a .parts .now) 0))) (codeIn (partsFrom (a .parts .now) 0)) (decode (a .state .now)) (a .parts .now) (l .i) (omega arith) (decode (l .state)) (l .inv .4) (sym (c .before .before .before .before .before .before .before .is-reference .ensures) ∙ c .before .before .before .before .before .before .if1 .taken) (c .before .before .before .before .before .argument .result) (c .before .before .before .before .before .argument .ensures) (c .before .before .before .address .result) (c .before .before .before .address .ensures) (decode (c .before .before .put-reference .last .0)) (c .before .before .put-reference .ensures .is))
 
 loop-less-2 : tie.Need-loop-less-2 Inv-loop μ-loop
 loop-less-2 c = omega arith
 
 loop-again-2 : tie.Need-loop-again-2 Inv-loop μ-loop
-loop-again-2 c = let l = c .before .before .before .before .loop in let a = c .before .before .before .before .before .before .before .args in (omega arith, refl, l .inv .2, l .inv .3, link-skip (a .base) (a .t3) (length (externalsIn (partsFrom (a .parts .now) 0))) (codeIn (partsFrom (a .parts .now) 0)) (decode (a .state .now)) (a .parts .now) (l .i) (omega arith) (decode (l .state)) (l .inv .4) (c .if1 .left))
+loop-again-2 c = let l = c .before .before .before .before .before .loop in let a = c .before .before .before .before .before .before .before .before .args in (omega arith, refl, l .inv .2, l .inv .3, link-skip (a .base) (a .t3) (length (externalsIn (partsFrom (a .parts .now) 0))) (codeIn (partsFrom (a .parts .now) 0)) (decode (a .state .now)) (a .parts .now) (l .i) (omega arith) (decode (l .state)) (l .inv .4) (sym (c .before .is-reference .ensures) ∙ c .if1 .left))
 
 same-length : tie.Need-same-length Inv-loop μ-loop
 same-length c = c .before .loop .inv .3
@@ -111,6 +114,7 @@ link-spec =
     mul-text
     shared-slice-read-text
     add-i
+    is-reference-requires
     argument-requires
     sub-symbol
     mul-symbol

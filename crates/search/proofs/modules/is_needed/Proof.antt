@@ -4,7 +4,7 @@ use mathlib.Core.Path.{_≡_, refl, sym, _∙_}
 use lib.ListN.{length}
 use Prim.Native.Nat.{_-_, _≤_}
 use Rattle.state.specs.Layout.{decode}
-use Rattle.parts.specs.Cells.{partsFrom}
+use Rattle.tables.specs.Heads.{partsFrom}
 use Rattle.search.proofs.ModuleLaws.{wantedFrom, wanted-is, wanted-turn, wanted-done}
 use Rattle.search.proofs.modules.takes.Statement.{statement}
 use Rattle.search.proofs.modules.takes.Tie as tie

@@ -10,10 +10,10 @@ use Rattle.state.proofs.table.guesses.Lts as lts
 use Rattle.state.proofs.table.worth_guessing.Reads as worth-guessing-reads
 
 abbrev Inv-loop : tie.InvT-loop
-Inv-loop state wanted n places₀ i₀ positions i = (n ≤ 256) × (length positions ≡ 512)
+Inv-loop state names n places₀ i₀ positions i = (n ≤ 256) × (length positions ≡ 512)
 
 abbrev μ-loop : tie.MeasureT-loop
-μ-loop state wanted n places₀ i₀ positions i = n - i
+μ-loop state names n places₀ i₀ positions i = n - i
 
 worth-guessing-requires : tie.Need-worth-guessing-requires Inv-loop μ-loop
 worth-guessing-requires c κs = c .before .pre
@@ -21,23 +21,23 @@ worth-guessing-requires c κs = c .before .pre
 loop-holds : tie.Need-loop-holds Inv-loop μ-loop
 loop-holds c = (omega (arith, c .before .before .pre .tidy .few), length-replicate {A = ℕ} 512 0)
 
-cast-places : tie.Need-cast-places Inv-loop μ-loop
-cast-places c = omega arith
+cast-positions : tie.Need-cast-positions Inv-loop μ-loop
+cast-positions c = omega arith
 
-add-places : tie.Need-add-places Inv-loop μ-loop
-add-places c = omega arith
+add-positions : tie.Need-add-positions Inv-loop μ-loop
+add-positions c = omega arith
 
-mul-places : tie.Need-mul-places Inv-loop μ-loop
-mul-places c = omega arith
+mul-positions : tie.Need-mul-positions Inv-loop μ-loop
+mul-positions c = omega arith
 
-shared-slice-read-places : tie.Need-shared-slice-read-places Inv-loop μ-loop
-shared-slice-read-places c = omega arith
+shared-slice-read-positions : tie.Need-shared-slice-read-positions Inv-loop μ-loop
+shared-slice-read-positions c = omega arith
 
-mul-places-2 : tie.Need-mul-places-2 Inv-loop μ-loop
-mul-places-2 c = omega arith
+mul-positions-2 : tie.Need-mul-positions-2 Inv-loop μ-loop
+mul-positions-2 c = omega arith
 
-array-write-places : tie.Need-array-write-places Inv-loop μ-loop
-array-write-places c = omega (arith, c .before .before .loop .inv .1)
+array-write-positions : tie.Need-array-write-positions Inv-loop μ-loop
+array-write-positions c = omega (arith, c .before .before .loop .inv .1)
 
 add-i : tie.Need-add-i Inv-loop μ-loop
 add-i c = omega arith
@@ -59,12 +59,12 @@ guesses-spec =
     μ-loop
     worth-guessing-requires
     loop-holds
-    cast-places
-    add-places
-    mul-places
-    shared-slice-read-places
-    mul-places-2
-    array-write-places
+    cast-positions
+    add-positions
+    mul-positions
+    shared-slice-read-positions
+    mul-positions-2
+    array-write-positions
     add-i
     loop-less
     loop-again

@@ -55,8 +55,8 @@ loop-again c =
 returns-2 : tie.Need-returns-2 Inv-loop μ-loop
 returns-2 c = omega (arith, place-of-none (c .before .before .before .args .state .now) (c .before .loop .i) (c .before .loop .more) (omega arith))
 
-pub undefined-place-spec : {M : Type 1} → statement M
-undefined-place-spec =
+pub undefined-position-spec : {M : Type 1} → statement M
+undefined-position-spec =
     tie.close
     (tie.spec
     Inv-loop

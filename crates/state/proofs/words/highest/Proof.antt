@@ -8,14 +8,14 @@ use Rattle.state.proofs.words.highest.Statement.{statement}
 use Rattle.state.proofs.words.highest.Tie as tie
 
 abbrev Inv-loop : tie.InvT-loop
-Inv-loop state symbol wanted i₀ i = (wanted ≡ 2 + symbol)
+Inv-loop state symbol reference i₀ i = (reference ≡ 2 + symbol)
     × (highest symbol (wordsBelow state (4096 - i)) ≡ highest symbol (decode state .words))
 
 abbrev μ-loop : tie.MeasureT-loop
-μ-loop state symbol wanted i₀ i = 4096 - i
+μ-loop state symbol reference i₀ i = 4096 - i
 
-add-wanted : tie.Need-add-wanted Inv-loop μ-loop
-add-wanted c = omega arith
+add-reference : tie.Need-add-reference Inv-loop μ-loop
+add-reference c = omega arith
 
 loop-holds : tie.Need-loop-holds Inv-loop μ-loop
 loop-holds c = (refl, highest-all _ _)
@@ -53,7 +53,7 @@ highest-spec =
     (tie.spec
     Inv-loop
     μ-loop
-    add-wanted
+    add-reference
     loop-holds
     sub-a
     add-if1

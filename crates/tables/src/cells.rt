@@ -1,0 +1,32 @@
+// Elements of a table by their numbers; what is past its end is 0.
+ghost use Prim.Native.Nat.{_≤_};
+ghost use mathlib.Core.Path.{_≡_};
+ghost use lib.ListN.{getD};
+ghost use Rattle.tables.specs.Tables.{headIn, bodyIn};
+
+// A cell of a table, 0 past its end.
+pub fn cell(cells: &[u64], i: usize) -> u64
+    ensures { λ r. ⌜ r ≡ getD (now (cells .entry)) i 0 ⌝ }
+{
+    if i < cells.len() {
+        return cells[i];
+    }
+    0
+}
+
+
+// The first cell of element i.
+pub fn head_at(cells: &[u64], i: usize) -> u64
+    requires { ⌜ i ≤ 131072 ⌝ }
+    ensures { λ r. ⌜ r ≡ headIn (now (cells .entry)) i ⌝ }
+{
+    cell(cells, 2 * i)
+}
+
+// The second cell of element i.
+pub fn body_at(cells: &[u64], i: usize) -> u64
+    requires { ⌜ i ≤ 131072 ⌝ }
+    ensures { λ r. ⌜ r ≡ bodyIn (now (cells .entry)) i ⌝ }
+{
+    cell(cells, 2 * i + 1)
+}
