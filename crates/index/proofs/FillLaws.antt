@@ -19,7 +19,7 @@ use Rattle.tables.specs.Tables.{headIn, bodyIn, startIn, endIn, cellsIn, module
 use Rattle.tables.specs.Heads.{partsFrom, isEntry}
 use Rattle.tables.specs.Heads.{namesIn}
 use Rattle.tables.proofs.HeadLaws.{parts-done}
-use Rattle.parts.proofs.PassLaws.{names-next}
+use Rattle.tables.proofs.HeadLaws.{names-next}
 use Rattle.index.specs.Index.{size, countOf, nameAt, ownerAt, lastWhere, namedBelow, named, holds, Indexed, Found, Added, PartAdded, namesFrom, Owner, Owns, clash, Filled, ModuleAdded, Cleared, Tested}
 use Rattle.index.proofs.LastLaws.{last-most, last-same, last-next}
 use Rattle.index.proofs.IndexLaws.{cleared-indexed}

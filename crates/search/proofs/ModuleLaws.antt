@@ -18,7 +18,7 @@ use Rattle.tables.specs.Tables.{partsOf, bodyIn, startIn, endIn, cellsIn}
 use Rattle.tables.specs.Heads.{partsFrom, isEntry}
 use Rattle.tables.specs.Heads.{namesIn}
 use Rattle.tables.proofs.HeadLaws.{parts-done}
-use Rattle.parts.proofs.PassLaws.{names-next, turned}
+use Rattle.tables.proofs.HeadLaws.{names-next, turned}
 
 -- ---- is one of the entries from here on undefined
 

@@ -37,23 +37,17 @@ mul-entry c = omega (arith, c .before .loop .inv (c .before .before .before .bef
 shared-slice-read-entry : tie.Need-shared-slice-read-entry Inv-loop μ-loop
 shared-slice-read-entry c = omega (arith, c .before .before .loop .inv (c .before .before .before .before .before .before .before .pre) .most, c .before .before .before .before .before .before .before .pre .few, c .before .before .before .before .before .before .before .pre .long)
 
-mul-cell : tie.Need-mul-cell Inv-loop μ-loop
-mul-cell c = omega arith
-
-add-cell : tie.Need-add-cell Inv-loop μ-loop
-add-cell c = omega arith
-
-cell-requires : tie.Need-cell-requires Inv-loop μ-loop
-cell-requires c κs = tt
+body-at-requires : tie.Need-body-at-requires Inv-loop μ-loop
+body-at-requires c κs = omega arith
 
 returns : tie.Need-returns Inv-loop μ-loop
-returns c = seek-here _ _ (c .before .before .before .before .before .before .before .before .before .pre) _ (c .before .before .before .before .loop .inv (c .before .before .before .before .before .before .before .before .before .pre)) (c .before .before .before .loop-test .taken) refl (sym (c .before .cell .ensures) ∙ c .if1 .taken)
+returns c = seek-here _ _ (c .before .before .before .before .before .before .before .before .before .pre) _ (c .before .before .before .before .loop .inv (c .before .before .before .before .before .before .before .before .before .pre)) (c .before .before .before .loop-test .taken) refl (sym (c .before .body-at .ensures) ∙ c .if1 .taken)
 
 loop-less : tie.Need-loop-less Inv-loop μ-loop
-loop-less c = seek-next _ _ (c .before .before .before .before .before .before .before .before .before .pre) _ (c .before .before .before .before .loop .inv (c .before .before .before .before .before .before .before .before .before .pre)) (c .before .before .before .loop-test .taken) refl (λ e. c .if1 .left (c .before .cell .ensures ∙ e)) refl .1
+loop-less c = seek-next _ _ (c .before .before .before .before .before .before .before .before .before .pre) _ (c .before .before .before .before .loop .inv (c .before .before .before .before .before .before .before .before .before .pre)) (c .before .before .before .loop-test .taken) refl (λ e. c .if1 .left (c .before .body-at .ensures ∙ e)) refl .1
 
 loop-again : tie.Need-loop-again Inv-loop μ-loop
-loop-again c = λ g. seek-next _ _ g _ (c .before .before .before .before .loop .inv g) (c .before .before .before .loop-test .taken) refl (λ e. c .if1 .left (c .before .cell .ensures ∙ e)) refl .0
+loop-again c = λ g. seek-next _ _ g _ (c .before .before .before .before .loop .inv g) (c .before .before .before .loop-test .taken) refl (λ e. c .if1 .left (c .before .body-at .ensures ∙ e)) refl .0
 
 returns-2 : tie.Need-returns-2 Inv-loop μ-loop
 returns-2 c = seek-none _ _ (c .before .before .before .before .before .before .pre) _ (c .before .loop .inv (c .before .before .before .before .before .before .pre)) (c .loop-test .left)
@@ -72,9 +66,7 @@ find-spec =
     add-entry
     mul-entry
     shared-slice-read-entry
-    mul-cell
-    add-cell
-    cell-requires
+    body-at-requires
     returns
     loop-less
     loop-again
