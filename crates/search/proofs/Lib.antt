@@ -1,6 +1,6 @@
 pub mod ModuleLaws
 pub mod GrowthLaws
-pub mod DueLaws
-pub mod TurnLaws
+pub mod CandidateLaws
+pub mod VisitLaws
 pub mod SweepLaws
 pub mod SeekLaws

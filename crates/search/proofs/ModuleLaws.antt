@@ -22,23 +22,23 @@ use Rattle.tables.proofs.HeadLaws.{names-next, turned}
 
 -- ---- is one of the entries from here on undefined
 
-abbrev pub wantedFrom : State → List Part → Bool
-wantedFrom s ps = any (λ x. isUndefined x (s .symbols)) (namesIn ps)
+abbrev pub neededFrom : State → List Part → Bool
+neededFrom s ps = any (λ x. isUndefined x (s .symbols)) (namesIn ps)
 
-pub wanted-is : (s : State) (n : ℕ) (ps : List Part) → isNeeded s (moduleAt n ps) ≡ wantedFrom s ps
+pub needed-is : (s : State) (n : ℕ) (ps : List Part) → isNeeded s (moduleAt n ps) ≡ neededFrom s ps
 unfolding isNeeded entryNames
-wanted-is s n ps = refl
+needed-is s n ps = refl
 
 module _ (s : State) (cells : List ℕ) (i : ℕ) where
-  pub wanted-done : length cells - i ≤ 1 → wantedFrom s (partsFrom cells i) ≡ false
+  pub needed-done : length cells - i ≤ 1 → neededFrom s (partsFrom cells i) ≡ false
   unfolding entriesIn any
-  wanted-done h = ap (wantedFrom s) (parts-done cells i h)
+  needed-done h = ap (neededFrom s) (parts-done cells i h)
 
   module _ (h : 1 < length cells - i) where
-    wanted-next : wantedFrom s (partsFrom cells i)
-        ≡ (isEntry (getD cells i 0) && isUndefined (getD cells (i + 1) 0) (s .symbols) || wantedFrom s (partsFrom cells (i + 2)))
+    needed-next : neededFrom s (partsFrom cells i)
+        ≡ (isEntry (getD cells i 0) && isUndefined (getD cells (i + 1) 0) (s .symbols) || neededFrom s (partsFrom cells (i + 2)))
     unfolding any
-    wanted-next =
+    needed-next =
         ap (any (λ x. isUndefined x (s .symbols))) (names-next cells i h)
         ∙ go (isEntry (getD cells i 0)) (namesIn (partsFrom cells (i + 2)))
       where
@@ -47,7 +47,7 @@ module _ (s : State) (cells : List ℕ) (i : ℕ) where
         go true xs = refl
         go false xs = refl
 
-    pub wanted-turn : {whole r b : Bool} → wantedFrom s (partsFrom cells i) ≡ whole →
+    pub needed-turn : {whole r b : Bool} → neededFrom s (partsFrom cells i) ≡ whole →
         r ≡ (isEntry (getD cells i 0) && isUndefined (getD cells (i + 1) 0) (s .symbols)) → r ≡ b →
-        (b || wantedFrom s (partsFrom cells (i + 2))) ≡ whole
-    wanted-turn = turned _ _ wanted-next
+        (b || neededFrom s (partsFrom cells (i + 2))) ≡ whole
+    needed-turn = turned _ _ needed-next

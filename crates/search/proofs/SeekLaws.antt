@@ -10,15 +10,17 @@ use lib.Dec.{eqb}
 use borrow.Author.Tests.{eq-eqb, ne-eqb}
 use Rattle.rules.specs.Reading.{Module}
 use Rattle.rules.specs.Search.{ModuleSet, noModules, Sweep, Found, found, roundMore, round, search}
-use Rattle.rules.specs.Load.{Walk, takes, place, searched}
+use Rattle.rules.specs.Load.{Walk, walk, takes, place, searched}
 use Rattle.rules.proofs.SearchLaws.{count, count-most, round-took}
 use Rattle.rules.proofs.FuelLaws.{roundsFrom, rounds-turn}
 use Rattle.tables.specs.Tables.{modulesIn}
 use Rattle.state.specs.Layout.{decode}
 use Rattle.state.specs.Good.{Good}
-use Rattle.search.specs.Searching.{Agrees, setOf, RoundIs, Rounded, Sought, later, Seeking}
+use Rattle.rules.specs.declared.answer.Refusal.{Refusal}
+use Rattle.placing.specs.Walks.{Agrees}
+use Rattle.search.specs.Searching.{setOf, RoundIs, Rounded, Sought, later, Seeking}
 use Rattle.search.specs.declared.rounds.Round.{Round}
-use Rattle.search.proofs.SweepLaws.{same-places}
+use Rattle.search.proofs.SweepLaws.{same-sets}
 
 found-same : {t t′ : ModuleSet} {n n′ : ℕ} {x x′ : Walk} → t ≡ t′ → n ≡ n′ → x ≡ x′ → found t n x ≡ found t′ n′ x′
 found-same p q r = λ j. found (p j) (q j) (r j)
@@ -38,15 +40,15 @@ clear-flag (suc n) (suc j) = clear-flag n j
 
 clear : (n : ℕ) → setOf (replicate n false) ≡ noModules
 unfolding noModules
-clear n = same-places (clear-flag n)
+clear n = same-sets (clear-flag n)
 
 -- a round flags as many modules as it took
-pub round-counts : {ms : List Module} {n : ℕ} → length ms ≡ n → {flags : List Bool} {fault line : ℕ} {cells : List ℕ}
-    {r : Round} {after : List ℕ} → Rounded ms flags fault line cells r after →
+pub round-counts : {ms : List Module} {n : ℕ} → length ms ≡ n → {flags : List Bool} {old : Refusal} {cells : List ℕ}
+    {r : Round} {after : List ℕ} → Rounded ms flags old cells r after →
     count (setOf (r .flags)) n ≡ count (setOf flags) n + r .took
-round-counts {ms} {n} e {flags} {fault} {line} {cells} {r} q =
-    let w : Walk = record { number = fault; line = line; state = decode cells } in
-    let d = q .does w (record { number = refl; line-is = refl; state-is = λ _. refl }) in
+round-counts {ms} {n} e {flags} {old} {cells} {r} q =
+    let w : Walk = walk old (decode cells) in
+    let d = q .does w (record { refusal-is = refl; state-is = λ _. refl }) in
     subst (λ k. count (setOf (r .flags)) k ≡ count (setOf flags) k + r .took) e
     (ap (λ t. count t (length ms)) (d .taken-is)
     ∙ round-took takes place ms (setOf flags) w
@@ -55,8 +57,8 @@ round-counts {ms} {n} e {flags} {fault} {line} {cells} {r} q =
 -- ---- the search
 
 module _ (ms : List Module) where
-  pub seek-start : (n : ℕ) (w : Walk) {fault line : ℕ} {cells : List ℕ} → Agrees w fault line cells →
-      Seeking (searched ms w) ms 0 1 (replicate n false) fault line cells
+  pub seek-start : (n : ℕ) (w : Walk) {old : Refusal} {cells : List ℕ} → Agrees w old cells →
+      Seeking (searched ms w) ms 0 1 (replicate n false) old cells
   unfolding searched search
   seek-start n w a =
       record {
@@ -67,10 +69,10 @@ module _ (ms : List Module) where
             ∙ found-same refl (omega arith) refl;
       }
 
-  module _ {f : Found Walk} {k took : ℕ} {flags : List Bool} {fault line : ℕ} {cells : List ℕ}
-      (l : Seeking f ms k took flags fault line cells) where
-    pub seek-next : 0 < took → {r : Round} {after : List ℕ} → Rounded ms flags fault line cells r after →
-        Seeking f ms (k + 1) (r .took) (r .flags) (r .fault) (r .line) after
+  module _ {f : Found Walk} {k took : ℕ} {flags : List Bool} {old : Refusal} {cells : List ℕ}
+      (l : Seeking f ms k took flags old cells) where
+    pub seek-next : 0 < took → {r : Round} {after : List ℕ} → Rounded ms flags old cells r after →
+        Seeking f ms (k + 1) (r .took) (r .flags) (r .refusal) after
     seek-next h {r} q =
         let d = q .does (l .here) (l .agrees) in
         let s = round takes place ms (setOf flags) (l .here) in
@@ -101,5 +103,5 @@ module _ (ms : List Module) where
     pub seek-rounds : took ≤ 0 → k ≡ f .rounds
     seek-rounds h = ap (λ (g : Found Walk). g .rounds) (seek-end h)
 
-    pub seek-agrees : took ≤ 0 → Agrees (f .now) fault line cells
-    seek-agrees h = subst (λ (g : Found Walk). Agrees (g .now) fault line cells) (seek-end h) (l .agrees)
+    pub seek-agrees : took ≤ 0 → Agrees (f .now) old cells
+    seek-agrees h = subst (λ (g : Found Walk). Agrees (g .now) old cells) (seek-end h) (l .agrees)

@@ -14,9 +14,11 @@ use Rattle.rules.specs.Load.{Walk, isNeeded, takes, place}
 use Rattle.tables.specs.Tables.{moduleIn, modulesIn}
 use Rattle.state.specs.Layout.{decode}
 use Rattle.state.specs.Good.{Good}
-use Rattle.search.specs.Searching.{Agrees, Turned, Visited, setOf, RoundIs, Swept}
-use Rattle.search.specs.declared.taking.Turn.{Turn}
-use Rattle.search.proofs.TurnLaws.{unwanted-left, visit-left}
+use Rattle.rules.specs.declared.answer.Refusal.{Refusal}
+use Rattle.placing.specs.Walks.{Agrees}
+use Rattle.search.specs.Searching.{VisitIs, Visited, setOf, RoundIs, Swept}
+use Rattle.search.specs.declared.visits.Visit.{Visit}
+use Rattle.search.proofs.VisitLaws.{unneeded-left, visit-left}
 
 -- ---- the modules of the rows from a row on
 
@@ -37,14 +39,14 @@ module _ (parts rows : List ℕ) (first n i : ℕ) where
       ap (modulesIn parts rows (first + i)) more
       ∙ ap (λ k. moduleIn parts rows (first + i) ∷ modulesIn parts rows k (n - (i + 1))) on
 
--- ---- a flag set is a place more
+-- ---- a flag set is a module more
 
-pub same-places : {p q : ModuleSet} → ((j : ℕ) → p j ≡ q j) → p ≡ q
-same-places h = λ k j. h j k
+pub same-sets : {p q : ModuleSet} → ((j : ℕ) → p j ≡ q j) → p ≡ q
+same-sets h = λ k j. h j k
 
 flag-set : (flags : List Bool) (i : ℕ) → i < length flags → setOf (set flags i true) ≡ withModule i (setOf flags)
 unfolding withModule
-flag-set flags i h = same-places (λ j. go j (eqb i j) refl)
+flag-set flags i h = same-sets (λ j. go j (eqb i j) refl)
   where
     go : (j : ℕ) (b : Bool) → eqb i j ≡ b → getD (set flags i true) j false ≡ (b || getD flags j false)
     go j true e =
@@ -57,8 +59,8 @@ sweep-same p q r = λ j. sweepOf (p j) (q j) (r j)
 
 -- ---- a visit
 
-module _ (m : Module) (i k : ℕ) (flags : List Bool) (h : i < length flags) (w : Walk) {r : Turn} {after : List ℕ}
-    (t : Turned m (getD flags i false) w r after) where
+module _ (m : Module) (i k : ℕ) (flags : List Bool) (h : i < length flags) (w : Walk) {r : Visit} {after : List ℕ}
+    (t : VisitIs m (getD flags i false) w r after) where
   abbrev settled : Bool
   settled = getD flags i false || not (takes w m)
 
@@ -84,8 +86,8 @@ module _ (parts rows : List ℕ) (first n : ℕ) where
   abbrev pub from : ℕ → List Module
   from i = modulesIn parts rows (first + i) (n - i)
 
-  pub swept-start : (flags : List Bool) (w : Walk) {fault line : ℕ} {cells : List ℕ} → Agrees w fault line cells →
-      Swept (round takes place (modulesIn parts rows first n) (setOf flags) w) 0 0 (from 0) flags fault line cells
+  pub swept-start : (flags : List Bool) (w : Walk) {old : Refusal} {cells : List ℕ} → Agrees w old cells →
+      Swept (round takes place (modulesIn parts rows first n) (setOf flags) w) 0 0 (from 0) flags old cells
   unfolding round
   swept-start flags w a =
       let begin : first + 0 ≡ first = omega arith in
@@ -96,11 +98,11 @@ module _ (parts rows : List ℕ) (first n : ℕ) where
         is = ap₂ (λ i k. sweep takes place 0 (modulesIn parts rows i k) (sweepOf (setOf flags) 0 w)) begin whole;
       }
 
-  module _ {s : Sweep Walk} {i k : ℕ} {flags : List Bool} {fault line : ℕ} {cells : List ℕ}
-      (l : Swept s i k (from i) flags fault line cells) where
-    pub swept-next : i < n → i < length flags → {r : Turn} {after : List ℕ} →
-        Visited (moduleIn parts rows (first + i)) (getD flags i false) fault line cells r after →
-        Swept s (i + 1) (k + r .took) (from (i + 1)) (set flags i (r .flag)) (r .fault) (r .line) after
+  module _ {s : Sweep Walk} {i k : ℕ} {flags : List Bool} {old : Refusal} {cells : List ℕ}
+      (l : Swept s i k (from i) flags old cells) where
+    pub swept-next : i < n → i < length flags → {r : Visit} {after : List ℕ} →
+        Visited (moduleIn parts rows (first + i)) (getD flags i false) old cells r after →
+        Swept s (i + 1) (k + r .took) (from (i + 1)) (set flags i (r .flag)) (r .refusal) after
     unfolding sweep
     swept-next b h v =
         let t = v .does (l .here) (l .agrees) in
@@ -116,22 +118,22 @@ module _ (parts rows : List ℕ) (first n : ℕ) where
 
     -- a module that is not needed is passed by
     pub swept-idle : i < n → i < length flags → Good cells →
-        (fault ≡ 0 → isNeeded (decode cells) (moduleIn parts rows (first + i)) ≡ false) →
-        Swept s (i + 1) k (from (i + 1)) flags fault line cells
+        (old .number ≡ 0 → isNeeded (decode cells) (moduleIn parts rows (first + i)) ≡ false) →
+        Swept s (i + 1) k (from (i + 1)) flags old cells
     swept-idle b h g u =
         let m = moduleIn parts rows (first + i) in
         let none : k + 0 ≡ k = omega arith in
         subst
-        (λ fs. Swept s (i + 1) k (from (i + 1)) fs fault line cells)
+        (λ fs. Swept s (i + 1) k (from (i + 1)) fs old cells)
         (set-getD flags i false)
         (subst
-        (λ t. Swept s (i + 1) t (from (i + 1)) (set flags i (getD flags i false)) fault line cells)
+        (λ t. Swept s (i + 1) t (from (i + 1)) (set flags i (getD flags i false)) old cells)
         none
-        (swept-next b h (visit-left (unwanted-left m (getD flags i false) cells u) g refl)))
+        (swept-next b h (visit-left (unneeded-left m (getD flags i false) old cells u) g refl)))
 
-    pub swept-done : n ≤ i → RoundIs s (record { flags = flags; took = k; fault = fault; line = line }) cells
+    pub swept-done : n ≤ i → RoundIs s (record { flags = flags; took = k; refusal = old }) cells
     unfolding sweep
     swept-done h =
-        subst (λ v. RoundIs v (record { flags = flags; took = k; fault = fault; line = line }) cells)
+        subst (λ v. RoundIs v (record { flags = flags; took = k; refusal = old }) cells)
         (ap (λ ms. sweep takes place i ms (sweepOf (setOf flags) k (l .here))) (sym (modules-done parts rows first n i h)) ∙ l .is)
         (record { taken-is = refl; took-is = refl; agrees = l .agrees })

@@ -1,2 +1,2 @@
 pub mod Searching
-pub mod Due
+pub mod Flags

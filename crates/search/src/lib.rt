@@ -1,5 +1,5 @@
 // The search of a library section, over the tables.
-pub mod due;
+pub mod candidates;
 pub mod modules;
 pub mod rounds;
-pub mod taking;
+pub mod visits;

@@ -1,102 +1,88 @@
-// The rounds of a section's search. Its modules are those of n rows from row `first` on.
-use crate::due::raise_from;
-use crate::taking::visit;
+// The rounds of a section's search.
+use crate::candidates::mark_undefined;
+use crate::visits::visit_module;
+use rules::answer::DONE;
+use rules::answer::Refusal;
+use tables::rows::Section;
 ghost use mathlib.Core.Path.{_≡_};
 ghost use lib.ListN.{length};
+ghost use Rattle.rules.specs.Limits.{mostModules};
 ghost use Rattle.tables.specs.Tables.{modulesIn};
 ghost use Rattle.state.specs.Good.{Good};
-ghost use Rattle.search.specs.Searching.{Section, Rounded, Sought};
 ghost use Rattle.index.specs.Index.{Owns};
-ghost use Rattle.search.specs.Due.{Idle};
+ghost use Rattle.search.specs.Searching.{SectionSound, Rounded, Sought};
+ghost use Rattle.search.specs.Flags.{Candidates};
 
 // After a round: the flags of the modules taken, how many this round took, and the refusal.
 pub struct Round {
     pub flags: [bool; 256],
     pub took: usize,
-    pub fault: u64,
-    pub line: u64,
+    pub refusal: Refusal,
 }
 
-// Visits the modules in their order, those that may be due.
+// Visits the candidates in their order.
 fn one_round(
     parts: &[u64],
     rows: &[u64],
-    first: usize,
-    n: usize,
+    section: Section,
     flags: [bool; 256],
-    fault: u64,
-    line: u64,
+    refusal: Refusal,
     index: &[u64],
-    due: &mut [u8],
+    candidates: &mut [u8],
     state: &mut [u64],
 ) -> Round
-    requires { ⌜ Section (now parts) (now rows) first n ⌝ }
-    requires { ⌜ Idle (now parts) (now rows) first n fault (now index) (now state) (now due) ⌝ }
+    requires { ⌜ SectionSound (now parts) (now rows) section ⌝ }
+    requires { ⌜ Candidates (now parts) (now rows) section refusal (now index) (now state) (now candidates) ⌝ }
     requires { ⌜ Good (now state) ⌝ }
-    ensures { λ r. ⌜ Rounded (modulesIn (now (parts .entry)) (now (rows .entry)) first n) flags fault line (now (state .entry)) r (now (state .exit)) × Idle (now (parts .entry)) (now (rows .entry)) first n (r .fault) (now (index .entry)) (now (state .exit)) (now (due .exit)) ⌝ }
+    ensures { λ r. ⌜ Rounded (modulesIn (now (parts .entry)) (now (rows .entry)) (section .first) (section .count)) flags refusal (now (state .entry)) r (now (state .exit)) × Candidates (now (parts .entry)) (now (rows .entry)) section (r .refusal) (now (index .entry)) (now (state .exit)) (now (candidates .exit)) ⌝ }
 {
+    let n = section.count;
     let mut marks = flags;
     let mut took = 0;
-    let mut number = fault;
-    let mut at = line;
+    let mut told = refusal;
     let mut i = 0;
     while i < n {
         let k = i;
         i += 1;
-        if due[k] != 0 {
-            let v = visit(
-                parts,
-                rows,
-                first,
-                n,
-                k,
-                marks[k],
-                number,
-                at,
-                index,
-                due,
-                state,
-            );
+        if candidates[k] != 0 {
+            let v = visit_module(parts, rows, section, k, marks[k], told, index, candidates, state);
+            let after = v.refusal;
             marks[k] = v.flag;
             took += v.took;
-            number = v.fault;
-            at = v.line;
+            told = after;
         }
     }
     Round {
         flags: marks,
         took,
-        fault: number,
-        line: at,
+        refusal: told,
     }
 }
 
-// The flags at the start of a section; in a walk that is refused already, none.
-fn raise_all(
+// The candidates at the start of a section; in a walk that is refused already there are none.
+fn first_candidates(
     parts: &[u64],
     rows: &[u64],
-    first: usize,
-    n: usize,
-    fault: u64,
+    section: Section,
+    refusal: Refusal,
     index: &[u64],
     state: &[u64],
-    due: &mut [u8],
+    candidates: &mut [u8],
 )
-    requires { ⌜ (fault ≡ 0 → Owns (now parts) (now rows) first n (now index)) ⌝ }
-    requires { ⌜ length (now due) ≡ 256 ⌝ }
+    requires { ⌜ (refusal .number ≡ 0 → Owns (now parts) (now rows) (section .first) (section .count) (now index)) ⌝ }
+    requires { ⌜ length (now candidates) ≡ mostModules ⌝ }
     requires { ⌜ Good (now state) ⌝ }
-    ensures { λ r. ⌜ Idle (now (parts .entry)) (now (rows .entry)) first n fault (now (index .entry)) (now (state .entry)) (now (due .exit)) ⌝ }
+    ensures { λ r. ⌜ Candidates (now (parts .entry)) (now (rows .entry)) section refusal (now (index .entry)) (now (state .entry)) (now (candidates .exit)) ⌝ }
 {
-    if fault != 0 {
+    if refusal.number != DONE {
         return;
     }
-    raise_from(parts, index, 0, state, due);
+    mark_undefined(parts, index, 0, state, candidates);
 }
 
 // After a search: the refusal, and the number of rounds.
-pub struct Outcome {
-    pub fault: u64,
-    pub line: u64,
+pub struct Searched {
+    pub refusal: Refusal,
     pub rounds: usize,
 }
 
@@ -104,48 +90,33 @@ pub struct Outcome {
 pub fn search(
     parts: &[u64],
     rows: &[u64],
-    first: usize,
-    n: usize,
-    fault: u64,
-    line: u64,
+    section: Section,
+    refusal: Refusal,
     index: &[u64],
     state: &mut [u64],
-) -> Outcome
-    requires { ⌜ Section (now parts) (now rows) first n ⌝ }
-    requires { ⌜ (fault ≡ 0 → Owns (now parts) (now rows) first n (now index)) ⌝ }
+) -> Searched
+    requires { ⌜ SectionSound (now parts) (now rows) section ⌝ }
+    requires { ⌜ (refusal .number ≡ 0 → Owns (now parts) (now rows) (section .first) (section .count) (now index)) ⌝ }
     requires { ⌜ Good (now state) ⌝ }
-    ensures { λ r. ⌜ Sought (modulesIn (now (parts .entry)) (now (rows .entry)) first n) fault line (now (state .entry)) r (now (state .exit)) ⌝ }
+    ensures { λ r. ⌜ Sought (modulesIn (now (parts .entry)) (now (rows .entry)) (section .first) (section .count)) refusal (now (state .entry)) r (now (state .exit)) ⌝ }
 {
-    let mut due = [0u8; 256];
-    raise_all(parts, rows, first, n, fault, index, state, &mut due);
+    let mut candidates = [0u8; 256];
+    first_candidates(parts, rows, section, refusal, index, state, &mut candidates);
     let mut flags = [false; 256];
     let mut took = 1;
-    let mut number = fault;
-    let mut at = line;
+    let mut told = refusal;
     let mut rounds = 0;
     while 0 < took {
-        let r = one_round(
-            parts,
-            rows,
-            first,
-            n,
-            flags,
-            number,
-            at,
-            index,
-            &mut due,
-            state,
-        );
+        let r = one_round(parts, rows, section, flags, told, index, &mut candidates, state);
         let marks = r.flags;
+        let after = r.refusal;
         flags = marks;
         took = r.took;
-        number = r.fault;
-        at = r.line;
+        told = after;
         rounds += 1;
     }
-    Outcome {
-        fault: number,
-        line: at,
+    Searched {
+        refusal: told,
         rounds,
     }
 }

@@ -16,5 +16,5 @@ returns c = simp (sym (c .before .is-entry .ensures) ∙ not-true _ (c .if1 .tak
 returns-2 : tie.Need-returns-2
 returns-2 c = simp (sym (c .before .before .is-entry .ensures) ∙ not-false _ (c .before .if1 .left)) (c .is-undefined .ensures)
 
-pub is-wanted-spec : {M : Type 1} → statement M
-is-wanted-spec = tie.close (tie.spec is-entry-requires returns is-undefined-requires returns-2)
+pub is-needed-entry-spec : {M : Type 1} → statement M
+is-needed-entry-spec = tie.close (tie.spec is-entry-requires returns is-undefined-requires returns-2)
