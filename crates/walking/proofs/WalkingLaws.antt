@@ -11,55 +11,44 @@ use lib.Dec.{eqb}
 use borrow.Author.Tests.{eq-eqb, ne-eqb}
 use Rattle.rules.specs.Reading.{Module, Item, free, section}
 use Rattle.rules.specs.Placing.{entries, externals, entryName, twice}
-use Rattle.rules.specs.Load.{Walk, refusedAt, accepted, place, searched, entryNames, sectionNames, testSection, Progress, progress, walkItem, walkItems}
+use Rattle.rules.specs.Load.{refusal, Walk, place, searched, entryNames, sectionNames, testSection, Progress, progress, walkItem, walkItems}
 use Rattle.rules.proofs.TestLaws.{Every}
 use Rattle.rules.proofs.ReadingLaws.{ModuleSound, ItemSound}
-use Rattle.tables.specs.Tables.{kindIn, freeRow, sectionRow, lineIn, startIn, endIn, moduleIn, modulesIn, sectionIn, itemsFromRow, itemsIn}
+use Rattle.tables.specs.Tables.{kindIn, freeRow, sectionRow, lineIn, startIn, endIn, moduleIn, modulesIn, sectionIn, itemsFromRow, itemsIn, RowsOf}
+use Rattle.tables.specs.declared.rows.Section.{Section}
+use Rattle.rules.specs.declared.answer.Refusal.{Refusal}
 use Rattle.state.specs.Good.{Good}
 use Rattle.index.specs.Index.{size, Tested}
-use Rattle.search.specs.Searching.{Agrees, Section, PlacedRow, Sought}
+use Rattle.placing.specs.Walks.{Agrees, PlacedRow}
+use Rattle.placing.proofs.PlacedLaws.{goes-on, stands}
+use Rattle.search.specs.Searching.{SectionSound, Sought}
 use Rattle.search.proofs.SeekLaws.{length-modules}
-use Rattle.search.specs.declared.taking.Told.{Told}
-use Rattle.search.specs.declared.rounds.Outcome.{Outcome}
-use Rattle.walking.specs.declared.Walked.{Walked}
-use Rattle.walking.specs.Walking.{rowStep, RowSound, TestedSection, Indexable, Known, Goes, Went, Stands}
+use Rattle.search.specs.declared.rounds.Searched.{Searched}
+use Rattle.walking.specs.declared.WalkSoFar.{WalkSoFar}
+use Rattle.walking.specs.Walking.{sectionRounds, walkSoFar, unwalked, rowStep, RowSound, TestedSection, Indexable, Known, Tracks, Advances, Stands}
 
 -- ---- the test of a section
 
-module _ (at : ℕ) (ms : List Module) (fault line : ℕ) where
-  pub tested-refused : fault ≢ 0 → TestedSection at ms fault line (record { fault = fault; line = line })
+module _ (at : ℕ) (ms : List Module) (old : Refusal) where
+  pub tested-refused : old .number ≢ 0 → TestedSection at ms old old
   unfolding testSection
-  tested-refused z =
-      record {
-        does = λ w cells a.
-            let shut : eqb (w .number) 0 ≡ false = ne-eqb (w .number) 0 (λ e. z (a .number ∙ e)) in
-            rw shut a;
-      }
+  tested-refused z = record { does = λ w cells a. rw (stands a z) a }
 
-  pub tested-twice : fault ≡ 0 → twice (sectionNames ms) ≡ true → (k : ℕ) → k ≡ at → TestedSection at ms fault line (record { fault = 13; line = k })
+  pub tested-twice : old .number ≡ 0 → twice (sectionNames ms) ≡ true → (k : ℕ) → k ≡ at → TestedSection at ms old (refusal 13 k)
   unfolding testSection
   tested-twice e t k q =
-      record {
-        does = λ w cells a.
-            let on : eqb (w .number) 0 ≡ true = eq-eqb (w .number) 0 (sym (a .number) ∙ e) in
-            rw (on, t) (record { number = refl; line-is = q; state-is = λ z. absurd (omega arith) });
-      }
+      record { does = λ w cells a. rw (goes-on a e, t) (record { refusal-is = ap (refusal 13) q; state-is = λ z. absurd (omega arith) }) }
 
-  pub tested-once : fault ≡ 0 → twice (sectionNames ms) ≡ false → TestedSection at ms fault line (record { fault = fault; line = line })
+  pub tested-once : old .number ≡ 0 → twice (sectionNames ms) ≡ false → TestedSection at ms old old
   unfolding testSection
-  tested-once e t =
-      record {
-        does = λ w cells a.
-            let on : eqb (w .number) 0 ≡ true = eq-eqb (w .number) 0 (sym (a .number) ∙ e) in
-            rw (on, t) a;
-      }
+  tested-once e t = record { does = λ w cells a. rw (goes-on a e, t) a }
 
 -- what the index knows after the test
-module _ {parts rows : List ℕ} {first n : ℕ} {index : List ℕ} where
-  pub known-refused : {fault : ℕ} → length index ≡ size → fault ≢ 0 → Known parts rows first n fault index
+module _ {parts rows : List ℕ} {s : Section} {index : List ℕ} where
+  pub known-refused : {r : Refusal} → length index ≡ size → r .number ≢ 0 → Known parts rows s r index
   known-refused h z = record { long = h; owns = λ e. absurd (z e) }
 
-  pub known-tested : {fault : ℕ} {r : Bool} → Tested parts rows first n r index → r ≡ false → Known parts rows first n fault index
+  pub known-tested : {r : Refusal} {b : Bool} → Tested parts rows (s .first) (s .count) b index → b ≡ false → Known parts rows s r index
   known-tested t f = record { long = t .long; owns = λ _. t .owns f }
 
 -- ---- a section's rows
@@ -77,47 +66,41 @@ few-names : (m : Module) → ModuleSound m → length (entryNames m) ≤ 64
 unfolding entryNames
 few-names m s = omega (arith, length-map (entries m) entryName, s .few-entries)
 
-module _ (parts rows : List ℕ) (row first last : ℕ) (start : first ≡ startIn rows row) (top : last ≡ max first (endIn rows row)) where
-  -- the rows of the section, as many as there are
-  count-is : last - first ≡ endIn rows row - startIn rows row
-  count-is = omega arith
+module _ (parts rows : List ℕ) (row : ℕ) {s : Section} (o : RowsOf rows row s) where
+  pub section-is :
+      modulesIn parts rows (s .first) (s .count) ≡ modulesIn parts rows (startIn rows row) (endIn rows row - startIn rows row)
+  section-is = ap₂ (modulesIn parts rows) (o .first) (o .count)
 
-  pub section-is : modulesIn parts rows first (last - first) ≡ modulesIn parts rows (startIn rows row) (endIn rows row - startIn rows row)
-  section-is = ap₂ (modulesIn parts rows) start count-is
-
-  module _ (s : ItemSound (sectionIn parts rows row)) where
-    members : Every ModuleSound (modulesIn parts rows first (last - first)) × (length (modulesIn parts rows first (last - first)) ≤ 256)
+  module _ (i : ItemSound (sectionIn parts rows row)) where
+    members : Every ModuleSound (modulesIn parts rows (s .first) (s .count)) × (length (modulesIn parts rows (s .first) (s .count)) ≤ 256)
     unfolding sectionIn
-    members = subst (λ ms. Every ModuleSound ms × (length ms ≤ 256)) (sym section-is) s
+    members = subst (λ ms. Every ModuleSound ms × (length ms ≤ 256)) (sym section-is) i
 
-    pub section-small : last - first ≤ 256
-    section-small = omega (arith, length-modules parts rows first (last - first), members .1)
-
-    pub section-fits : Section parts rows first (last - first)
+    pub section-fits : SectionSound parts rows s
     section-fits =
         record {
-          low = omega (arith, start);
-          short = section-small;
-          few = λ i l. module-sound parts rows first (last - first) (members .0) i l .few-externals;
+          low = o .low;
+          short = omega (arith, length-modules parts rows (s .first) (s .count), members .1);
+          sound = module-sound parts rows (s .first) (s .count) (members .0);
         }
 
-    pub section-indexable : length parts ≤ 131072 → {index : List ℕ} → length index ≡ size →
-        Indexable parts rows first (last - first) index
+    pub section-indexable : length parts ≤ 131072 → {index : List ℕ} → length index ≡ size → Indexable parts rows s index
     section-indexable p h =
         record {
           parts-few = p;
-          few = λ i l. few-names _ (module-sound parts rows first (last - first) (members .0) i l);
+          few = λ k l. few-names _ (module-sound parts rows (s .first) (s .count) (members .0) k l);
           long = h;
         }
 
 -- ---- an item
 
-pub went-section : (parts rows : List ℕ) (row fault line rounds : ℕ) (ms : List Module) (t : Told) (o : Outcome) (before after : List ℕ) →
-    ms ≡ modulesIn parts rows (startIn rows row) (endIn rows row - startIn rows row) →
-    TestedSection (lineIn rows row) ms fault line t → Sought ms (t .fault) (t .line) before o after →
-    Went (λ p. walkItem p (sectionIn parts rows row)) 257 fault line rounds before (record { fault = o .fault; line = o .line; rounds = rounds + o .rounds }) after
+pub section-walked :
+    (parts rows : List ℕ) (row : ℕ) (far : WalkSoFar) (ms : List Module) (t : Refusal) (o : Searched) (before after : List ℕ)
+    → ms ≡ modulesIn parts rows (startIn rows row) (endIn rows row - startIn rows row)
+    → TestedSection (lineIn rows row) ms (far .refusal) t → Sought ms t before o after
+    → Advances (λ p. walkItem p (sectionIn parts rows row)) sectionRounds far before (walkSoFar (o .refusal) (far .rounds + o .rounds)) after
 unfolding walkItem sectionIn
-went-section parts rows row fault line rounds ms t o before after e test found =
+section-walked parts rows row far ms t o before after e test found =
     record {
       good = found .good;
       most = omega (arith, found .most);
@@ -126,23 +109,22 @@ went-section parts rows row fault line rounds ms t o before after e test found =
           let a = test .does (p .walk) before (g .agrees) in
           subst
           (λ (l : List Module).
-          Goes
+          Tracks
           (progress
           (searched l (testSection (lineIn rows row) l (p .walk)) .now)
           (p .rounds + searched l (testSection (lineIn rows row) l (p .walk)) .rounds))
-          (o .fault)
-          (o .line)
-          (rounds + o .rounds)
+          (walkSoFar (o .refusal) (far .rounds + o .rounds))
           after)
           e
           (record { agrees = found .agrees w a; rounds-are = ap₂ _+_ (g .rounds-are) (found .rounds-is w a) });
     }
 
-pub went-free : (parts rows : List ℕ) (row fault line rounds : ℕ) (t : Told) (before after : List ℕ) →
-    PlacedRow (moduleIn parts rows row) fault line before t after →
-    Went (λ p. walkItem p (free (moduleIn parts rows row))) 257 fault line rounds before (record { fault = t .fault; line = t .line; rounds = rounds }) after
+pub free-walked :
+    (parts rows : List ℕ) (row : ℕ) (far : WalkSoFar) (t : Refusal) (before after : List ℕ)
+    → PlacedRow (moduleIn parts rows row) (far .refusal) before t after
+    → Advances (λ p. walkItem p (free (moduleIn parts rows row))) sectionRounds far before (walkSoFar t (far .rounds)) after
 unfolding walkItem
-went-free parts rows row fault line rounds t before after d =
+free-walked parts rows row far t before after d =
     record {
       good = d .good;
       most = omega arith;
@@ -151,26 +133,26 @@ went-free parts rows row fault line rounds t before after d =
 
 -- ---- a row
 
-module _ (parts rows : List ℕ) (i fault line rounds : ℕ) (before after : List ℕ) (r : Walked) where
-  pub row-free : kindIn rows i ≡ freeRow → Went (λ p. walkItem p (free (moduleIn parts rows i))) 257 fault line rounds before r after →
-      Went (rowStep parts rows i) 257 fault line rounds before r after
+module _ (parts rows : List ℕ) (i : ℕ) (far : WalkSoFar) (before after : List ℕ) (r : WalkSoFar) where
+  pub row-free : kindIn rows i ≡ freeRow → Advances (λ p. walkItem p (free (moduleIn parts rows i))) sectionRounds far before r after →
+      Advances (rowStep parts rows i) sectionRounds far before r after
   unfolding rowStep
   row-free e w =
       let on : eqb (kindIn rows i) freeRow ≡ true = eq-eqb (kindIn rows i) freeRow e in
       record { good = w .good; most = w .most; does = λ p g. rw on (w .does p g) }
 
-  pub row-section : kindIn rows i ≡ sectionRow → Went (λ p. walkItem p (sectionIn parts rows i)) 257 fault line rounds before r after →
-      Went (rowStep parts rows i) 257 fault line rounds before r after
+  pub row-section : kindIn rows i ≡ sectionRow → Advances (λ p. walkItem p (sectionIn parts rows i)) sectionRounds far before r after →
+      Advances (rowStep parts rows i) sectionRounds far before r after
   unfolding rowStep
   row-section e w =
       let off : eqb (kindIn rows i) freeRow ≡ false = ne-eqb (kindIn rows i) freeRow (λ f. absurd (omega (arith, e, f))) in
       let on : eqb (kindIn rows i) sectionRow ≡ true = eq-eqb (kindIn rows i) sectionRow e in
       record { good = w .good; most = w .most; does = λ p g. rw (off, on) (w .does p g) }
 
-pub row-member : (parts rows : List ℕ) (i fault line rounds : ℕ) (cells : List ℕ) → kindIn rows i ≢ freeRow → kindIn rows i ≢ sectionRow → Good cells →
-    Went (rowStep parts rows i) 257 fault line rounds cells (record { fault = fault; line = line; rounds = rounds }) cells
+pub row-member : (parts rows : List ℕ) (i : ℕ) (far : WalkSoFar) (cells : List ℕ) → kindIn rows i ≢ freeRow → kindIn rows i ≢ sectionRow → Good cells →
+    Advances (rowStep parts rows i) sectionRounds far cells far cells
 unfolding rowStep
-row-member parts rows i fault line rounds cells nf ns good =
+row-member parts rows i far cells nf ns good =
     let off : eqb (kindIn rows i) freeRow ≡ false = ne-eqb (kindIn rows i) freeRow nf in
     let shut : eqb (kindIn rows i) sectionRow ≡ false = ne-eqb (kindIn rows i) sectionRow ns in
     record { good = good; most = omega arith; does = λ p g. rw (off, shut) g }
@@ -224,33 +206,33 @@ module _ (parts rows : List ℕ) (i n : ℕ) (below : i < n) where
   pub rest-sound : Every ItemSound (itemsFromRow parts rows i (n - i)) → Every ItemSound (itemsFromRow parts rows (i + 1) (n - (i + 1)))
   rest-sound e = split e .2
 
-  pub stands-next : (p : Progress) (whole : List Item) (fault line rounds : ℕ) (before after : List ℕ) (r : Walked) →
-      Stands p whole (itemsFromRow parts rows i (n - i)) fault line rounds before →
-      Went (rowStep parts rows i) 257 fault line rounds before r after →
-      Stands p whole (itemsFromRow parts rows (i + 1) (n - (i + 1))) (r .fault) (r .line) (r .rounds) after
-  stands-next p whole fault line rounds before after r s w =
+  pub stands-next : (p : Progress) (whole : List Item) (far : WalkSoFar) (before after : List ℕ) (r : WalkSoFar) →
+      Stands p whole (itemsFromRow parts rows i (n - i)) far before →
+      Advances (rowStep parts rows i) sectionRounds far before r after →
+      Stands p whole (itemsFromRow parts rows (i + 1) (n - (i + 1))) r after
+  stands-next p whole far before after r s w =
       record {
         here = rowStep parts rows i (s .here);
-        goes = w .does (s .here) (s .goes);
+        tracks = w .does (s .here) (s .tracks);
         leads =
             sym (rest-leads parts rows i (n - (i + 1)) (s .here)) ∙
             ap (λ k. walkItems (s .here) (itemsFromRow parts rows i k)) (sym count-next) ∙ s .leads;
       }
 
 -- no row is gone over, and all are
-pub stands-start : (parts rows : List ℕ) (n : ℕ) (p : Progress) (cells : List ℕ) → Goes p 0 0 0 cells →
-    Stands p (itemsIn parts rows n) (itemsFromRow parts rows 0 (n - 0)) 0 0 0 cells
+pub stands-start : (parts rows : List ℕ) (n : ℕ) (p : Progress) (cells : List ℕ) → Tracks p unwalked cells →
+    Stands p (itemsIn parts rows n) (itemsFromRow parts rows 0 (n - 0)) unwalked cells
 unfolding itemsIn
 stands-start parts rows n p cells g =
     let all : n - 0 ≡ n = omega arith in
-    record { here = p; goes = g; leads = ap (λ k. walkItems p (itemsFromRow parts rows 0 k)) all }
+    record { here = p; tracks = g; leads = ap (λ k. walkItems p (itemsFromRow parts rows 0 k)) all }
 
-pub stands-end : (parts rows : List ℕ) (n i : ℕ) (p : Progress) (whole : List Item) (fault line rounds : ℕ) (cells : List ℕ) → n ≤ i →
-    Stands p whole (itemsFromRow parts rows i (n - i)) fault line rounds cells → Goes (walkItems p whole) fault line rounds cells
+pub stands-end : (parts rows : List ℕ) (n i : ℕ) (p : Progress) (whole : List Item) (far : WalkSoFar) (cells : List ℕ) → n ≤ i →
+    Stands p whole (itemsFromRow parts rows i (n - i)) far cells → Tracks (walkItems p whole) far cells
 unfolding itemsFromRow walkItems
-stands-end parts rows n i p whole fault line rounds cells l s =
+stands-end parts rows n i p whole far cells l s =
     let none : 0 ≡ n - i = omega arith in
-    subst (λ q. Goes q fault line rounds cells) (ap (λ k. walkItems (s .here) (itemsFromRow parts rows i k)) none ∙ s .leads) (s .goes)
+    subst (λ q. Tracks q far cells) (ap (λ k. walkItems (s .here) (itemsFromRow parts rows i k)) none ∙ s .leads) (s .tracks)
 
 pub all-sound : (parts rows : List ℕ) (n : ℕ) → Every ItemSound (itemsIn parts rows n) → Every ItemSound (itemsFromRow parts rows 0 (n - 0))
 unfolding itemsIn

@@ -1,57 +1,60 @@
 // The walk over what a file holds: the rows in order, free modules placed, sections tested and searched.
+use index::SIZE;
 use index::repeats;
-use search::modules::row_line;
+use placing::place_row;
+use rules::answer::DONE;
+use rules::answer::DUPLICATE;
+use rules::answer::Refusal;
 use search::rounds::search;
-use search::taking::Told;
-use search::taking::place_row;
-use parts::heads::larger;
-use tables::cell;
-ghost use Prim.Native.Nat.{_+_, _-_, _*_, _≤_, _<_};
+use tables::rows::FREE;
+use tables::rows::SECTION;
+use tables::rows::Section;
+use tables::rows::row_kind;
+use tables::rows::row_line;
+use tables::rows::section_of;
+ghost use Prim.Native.Nat.{_≤_, _<_};
 ghost use mathlib.Core.Path.{_≡_};
 ghost use lib.ListN.{length};
 ghost use Rattle.rules.specs.Reading.{free};
 ghost use Rattle.rules.specs.Load.{walkItem, walkItems};
 ghost use Rattle.rules.proofs.TestLaws.{Every};
 ghost use Rattle.rules.proofs.ReadingLaws.{ModuleSound, ItemSound};
-ghost use Rattle.tables.specs.Tables.{lineIn, moduleIn, modulesIn, sectionIn, itemsFromRow, itemsIn};
+ghost use Rattle.tables.specs.Tables.{lineIn, moduleIn, modulesIn, sectionIn, itemsIn};
 ghost use Rattle.state.specs.Good.{Good};
 ghost use Rattle.index.specs.Index.{size};
-ghost use Rattle.search.specs.Searching.{Section};
-ghost use Rattle.walking.specs.Walking.{rowStep, RowSound, TestedSection, Indexable, Known, Went};
+ghost use Rattle.search.specs.Searching.{SectionSound};
+ghost use Rattle.walking.specs.Walking.{mostRows, sectionRounds, walkRounds, unwalked, rowStep, RowSound, TestedSection, Indexable, Known, Advances};
 
-// A refusal's number and line, 0 where there is none, and the rounds of the searches so far.
-pub struct Walked {
-    pub fault: u64,
-    pub line: u64,
+// How far a walk has come: its refusal, and the rounds of its searches.
+pub struct WalkSoFar {
+    pub refusal: Refusal,
     pub rounds: usize,
 }
 
-// 13 at the section's LSB line, where a name is an entry twice in the n modules from row `first` on. Else the index has them.
+// 13 at the section's LSB line, where a name is an entry twice in its modules. Else the index has them.
 fn test_section(
     parts: &[u64],
     rows: &[u64],
     row: usize,
-    first: usize,
-    n: usize,
-    fault: u64,
-    line: u64,
+    section: Section,
+    refusal: Refusal,
     index: &mut [u64],
-) -> Told
-    requires { ⌜ row < 131072 ⌝ }
-    requires { ⌜ Section (now parts) (now rows) first n ⌝ }
-    requires { ⌜ Indexable (now parts) (now rows) first n (now index) ⌝ }
-    ensures { λ r. ⌜ TestedSection (lineIn (now (rows .entry)) row) (modulesIn (now (parts .entry)) (now (rows .entry)) first n) fault line r × Known (now (parts .entry)) (now (rows .entry)) first n (r .fault) (now (index .exit)) ⌝ }
+) -> Refusal
+    requires { ⌜ row < mostRows ⌝ }
+    requires { ⌜ SectionSound (now parts) (now rows) section ⌝ }
+    requires { ⌜ Indexable (now parts) (now rows) section (now index) ⌝ }
+    ensures { λ r. ⌜ TestedSection (lineIn (now (rows .entry)) row) (modulesIn (now (parts .entry)) (now (rows .entry)) (section .first) (section .count)) refusal r × Known (now (parts .entry)) (now (rows .entry)) section r (now (index .exit)) ⌝ }
 {
-    if fault != 0 {
-        return Told { fault, line };
+    if refusal.number != DONE {
+        return refusal;
     }
-    if repeats(parts, rows, first, n, index) {
-        return Told {
-            fault: 13,
+    if repeats(parts, rows, section, index) {
+        return Refusal {
+            number: DUPLICATE,
             line: row_line(rows, row),
         };
     }
-    Told { fault, line }
+    refusal
 }
 
 // A section: tested, then searched.
@@ -59,28 +62,24 @@ fn walk_section(
     parts: &[u64],
     rows: &[u64],
     row: usize,
-    fault: u64,
-    line: u64,
-    rounds: usize,
+    far: WalkSoFar,
     index: &mut [u64],
     state: &mut [u64],
-) -> Walked
-    requires { ⌜ (row < 131072) × (rounds ≤ 100000000) ⌝ }
+) -> WalkSoFar
+    requires { ⌜ (row < mostRows) × (far .rounds ≤ walkRounds) ⌝ }
     requires { ⌜ (length (now parts) ≤ 131072) × (length (now index) ≡ size) ⌝ }
     requires { ⌜ ItemSound (sectionIn (now parts) (now rows) row) ⌝ }
     requires { ⌜ Good (now state) ⌝ }
-    ensures { λ r. ⌜ Went (λ p. walkItem p (sectionIn (now (parts .entry)) (now (rows .entry)) row)) 257 fault line rounds (now (state .entry)) r (now (state .exit)) × (length (now (index .exit)) ≡ size) ⌝ }
+    ensures { λ r. ⌜ Advances (λ p. walkItem p (sectionIn (now (parts .entry)) (now (rows .entry)) row)) sectionRounds far (now (state .entry)) r (now (state .exit)) × (length (now (index .exit)) ≡ size) ⌝ }
 {
-    let body = cell(rows, 2 * row + 1);
-    let first = (body % 65536) as usize;
-    let last = larger(first, (body / 65536) as usize);
-    let n = last - first;
-    let t = test_section(parts, rows, row, first, n, fault, line, index);
-    let o = search(parts, rows, first, n, t.fault, t.line, index, state);
-    Walked {
-        fault: o.fault,
-        line: o.line,
-        rounds: rounds + o.rounds,
+    let section = section_of(rows, row);
+    let refusal = far.refusal;
+    let tested = test_section(parts, rows, row, section, refusal, index);
+    let found = search(parts, rows, section, tested, index, state);
+    let after = found.refusal;
+    WalkSoFar {
+        refusal: after,
+        rounds: far.rounds + found.rounds,
     }
 }
 
@@ -89,21 +88,19 @@ fn walk_free(
     parts: &[u64],
     rows: &[u64],
     row: usize,
-    fault: u64,
-    line: u64,
-    rounds: usize,
+    far: WalkSoFar,
     state: &mut [u64],
-) -> Walked
-    requires { ⌜ row < 131072 ⌝ }
+) -> WalkSoFar
+    requires { ⌜ row < mostRows ⌝ }
     requires { ⌜ ModuleSound (moduleIn (now parts) (now rows) row) ⌝ }
     requires { ⌜ Good (now state) ⌝ }
-    ensures { λ r. ⌜ Went (λ p. walkItem p (free (moduleIn (now (parts .entry)) (now (rows .entry)) row))) 257 fault line rounds (now (state .entry)) r (now (state .exit)) ⌝ }
+    ensures { λ r. ⌜ Advances (λ p. walkItem p (free (moduleIn (now (parts .entry)) (now (rows .entry)) row))) sectionRounds far (now (state .entry)) r (now (state .exit)) ⌝ }
 {
-    let t = place_row(parts, rows, row, fault, line, state);
-    Walked {
-        fault: t.fault,
-        line: t.line,
-        rounds,
+    let refusal = far.refusal;
+    let after = place_row(parts, rows, row, refusal, state);
+    WalkSoFar {
+        refusal: after,
+        rounds: far.rounds,
     }
 }
 
@@ -112,54 +109,45 @@ fn walk_row(
     parts: &[u64],
     rows: &[u64],
     row: usize,
-    fault: u64,
-    line: u64,
-    rounds: usize,
+    far: WalkSoFar,
     index: &mut [u64],
     state: &mut [u64],
-) -> Walked
-    requires { ⌜ (row < 131072) × (rounds ≤ 100000000) ⌝ }
+) -> WalkSoFar
+    requires { ⌜ (row < mostRows) × (far .rounds ≤ walkRounds) ⌝ }
     requires { ⌜ (length (now parts) ≤ 131072) × (length (now index) ≡ size) ⌝ }
     requires { ⌜ RowSound (now parts) (now rows) row ⌝ }
     requires { ⌜ Good (now state) ⌝ }
-    ensures { λ r. ⌜ Went (rowStep (now (parts .entry)) (now (rows .entry)) row) 257 fault line rounds (now (state .entry)) r (now (state .exit)) × (length (now (index .exit)) ≡ size) ⌝ }
+    ensures { λ r. ⌜ Advances (rowStep (now (parts .entry)) (now (rows .entry)) row) sectionRounds far (now (state .entry)) r (now (state .exit)) × (length (now (index .exit)) ≡ size) ⌝ }
 {
-    let kind = cell(rows, 2 * row) % 4;
-    if kind == 1 {
-        return walk_free(parts, rows, row, fault, line, rounds, state);
+    let kind = row_kind(rows, row);
+    if kind == FREE {
+        return walk_free(parts, rows, row, far, state);
     }
-    if kind == 3 {
-        return walk_section(parts, rows, row, fault, line, rounds, index, state);
+    if kind == SECTION {
+        return walk_section(parts, rows, row, far, index, state);
     }
-    Walked {
-        fault,
-        line,
-        rounds,
-    }
+    far
 }
 
 // The first n rows, in their order.
-pub fn walk(parts: &[u64], rows: &[u64], n: usize, state: &mut [u64]) -> Walked
-    requires { ⌜ (n ≤ 131072) × (length (now parts) ≤ 131072) ⌝ }
+pub fn walk(parts: &[u64], rows: &[u64], n: usize, state: &mut [u64]) -> WalkSoFar
+    requires { ⌜ (n ≤ mostRows) × (length (now parts) ≤ 131072) ⌝ }
     requires { ⌜ Every ItemSound (itemsIn (now parts) (now rows) n) ⌝ }
     requires { ⌜ Good (now state) ⌝ }
-    ensures { λ r. ⌜ Went (λ p. walkItems p (itemsIn (now (parts .entry)) (now (rows .entry)) n)) 33685504 0 0 0 (now (state .entry)) r (now (state .exit)) ⌝ }
+    ensures { λ r. ⌜ Advances (λ p. walkItems p (itemsIn (now (parts .entry)) (now (rows .entry)) n)) walkRounds unwalked (now (state .entry)) r (now (state .exit)) ⌝ }
 {
-    let mut index = [0u64; 18433];
-    let mut fault = 0;
-    let mut line = 0;
-    let mut rounds = 0;
+    let mut index = [0u64; SIZE];
+    let mut far = WalkSoFar {
+        refusal: Refusal {
+            number: DONE,
+            line: 0,
+        },
+        rounds: 0,
+    };
     let mut i = 0;
     while i < n {
-        let w = walk_row(parts, rows, i, fault, line, rounds, &mut index, state);
-        fault = w.fault;
-        line = w.line;
-        rounds = w.rounds;
+        far = walk_row(parts, rows, i, far, &mut index, state);
         i += 1;
     }
-    Walked {
-        fault,
-        line,
-        rounds,
-    }
+    far
 }

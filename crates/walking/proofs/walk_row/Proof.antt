@@ -1,46 +1,54 @@
-use Prim.Native.Nat.{_%_}
-use mathlib.Core.Path.{sym, ap, _∙_}
-use borrow.Author.Needs.{needs}
+use mathlib.Core.Path.{sym, _∙_}
 use Rattle.walking.proofs.WalkingLaws.{row-free, row-section, row-member}
+use borrow.Author.Needs.{needs}
 use Rattle.walking.proofs.walk_row.Statement.{statement}
 use Rattle.walking.proofs.walk_row.Tie as tie
 
-mul-cell : tie.Need-mul-cell
-mul-cell c = search needs
-
-cell-requires : tie.Need-cell-requires
-cell-requires c κs = search needs
+row-kind-requires : tie.Need-row-kind-requires
+row-kind-requires c κs = search needs
 
 walk-free-requires : tie.Need-walk-free-requires
-walk-free-requires c κs = let p = c .before .before .before .before .before .before .before .pre in (p .0 .0, (p .1 .1 .0 .free-sound (sym (ap (λ h. h % 4) (c .before .before .cell .ensures)) ∙ c .before .if1 .taken), p .1 .1 .1))
+walk-free-requires c κs =
+    let p = c .before .before .before .before .before .before .before .pre in
+    (p .0 .0, (p .1 .1 .0 .free-sound (sym (c .before .before .row-kind .ensures) ∙ c .before .if1 .taken), p .1 .1 .1))
 
 same-length : tie.Need-same-length
-same-length c = c .before .before .walk-free .ensures .good .long ∙ sym (c .before .before .before .before .before .before .before .before .before .before .pre .1 .1 .1 .long)
+same-length c = search needs
 
 returns : tie.Need-returns
-returns c = let a = c .before .before .before .before .before .before .before .before .before .before .args in (row-free (a .parts .now) (a .rows .now) (a .row) (a .fault) (a .line) (a .rounds) _ _ (c .before .before .walk-free .result) (sym (ap (λ h. h % 4) (c .before .before .before .before .before .cell .ensures)) ∙ c .before .before .before .before .if1 .taken) (c .before .before .walk-free .ensures), c .before .before .before .before .before .before .before .before .before .before .pre .1 .0 .1)
+returns c =
+    let q = c .before .before in
+    let p = q .before .before .before .before .before .before .before .before in
+    (row-free (p .args .parts .now) (p .args .rows .now) (p .args .row) (p .args .far) _ _ (q .walk-free .result) (sym (q .before .before .before .row-kind .ensures) ∙ q .before .before .if1 .taken) (q .walk-free .ensures), p .pre .1 .0 .1)
 
 walk-section-requires : tie.Need-walk-section-requires
-walk-section-requires c κs = let p = c .before .before .before .before .before .before .before .before .before .pre in (p .0, (p .1 .0, (p .1 .1 .0 .section-sound (sym (ap (λ h. h % 4) (c .before .before .before .before .cell .ensures)) ∙ c .before .before .if2 .taken), p .1 .1 .1)))
+walk-section-requires c κs =
+    let p = c .before .before .before .before .before .before .before .before .before .pre in
+    (p .0, (p .1 .0, (p .1 .1 .0 .section-sound (sym (c .before .before .before .before .row-kind .ensures) ∙ c .before .before .if2 .taken), p .1 .1 .1)))
 
 same-length-2 : tie.Need-same-length-2
-same-length-2 c = c .before .before .before .before .walk-section .ensures .1 ∙ sym (c .before .before .before .before .before .before .before .before .before .before .before .before .before .before .pre .1 .0 .1)
+same-length-2 c = search needs
 
 same-length-3 : tie.Need-same-length-3
-same-length-3 c = c .before .before .before .before .walk-section .ensures .0 .good .long ∙ sym (c .before .before .before .before .before .before .before .before .before .before .before .before .before .before .pre .1 .1 .1 .long)
+same-length-3 c = search needs
 
 returns-2 : tie.Need-returns-2
-returns-2 c = let a = c .before .before .before .before .before .before .before .before .before .before .before .before .before .before .args in (row-section (a .parts .now) (a .rows .now) (a .row) (a .fault) (a .line) (a .rounds) _ _ (c .before .before .before .before .walk-section .result) (sym (ap (λ h. h % 4) (c .before .before .before .before .before .before .before .before .before .cell .ensures)) ∙ c .before .before .before .before .before .before .before .if2 .taken) (c .before .before .before .before .walk-section .ensures .0), c .before .before .before .before .walk-section .ensures .1)
+returns-2 c =
+    let q = c .before .before .before .before in
+    let a = q .before .before .before .before .before .before .before .before .before .before .args in
+    (row-section (a .parts .now) (a .rows .now) (a .row) (a .far) _ _ (q .walk-section .result) (sym (q .before .before .before .before .before .row-kind .ensures) ∙ q .before .before .before .if2 .taken) (q .walk-section .ensures .0), q .walk-section .ensures .1)
 
 returns-3 : tie.Need-returns-3
-returns-3 c = let a = c .before .before .before .before .before .before .before .args in (row-member (a .parts .now) (a .rows .now) (a .row) (a .fault) (a .line) (a .rounds) _ (λ e. c .before .if1 .left (ap (λ h. h % 4) (c .before .before .cell .ensures) ∙ e)) (λ e. c .if2 .left (ap (λ h. h % 4) (c .before .before .cell .ensures) ∙ e)) (c .before .before .before .before .before .before .before .pre .1 .1 .1), c .before .before .before .before .before .before .before .pre .1 .0 .1)
+returns-3 c =
+    let p = c .before .before .before .before .before .before .before in
+    let k = c .before .before .row-kind .ensures in
+    (row-member (p .args .parts .now) (p .args .rows .now) (p .args .row) (p .args .far) _ (λ e. c .before .if1 .left (k ∙ e)) (λ e. c .if2 .left (k ∙ e)) (p .pre .1 .1 .1), p .pre .1 .0 .1)
 
 pub walk-row-spec : {M : Type 1} → statement M
 walk-row-spec =
     tie.close
     (tie.spec
-    mul-cell
-    cell-requires
+    row-kind-requires
     walk-free-requires
     same-length
     returns
