@@ -10,13 +10,13 @@ ghost use lib.ListN.{length};
 ghost use lib.Dec.{eqb};
 ghost use Rattle.rules.specs.Calls.{load, workAfter, reset, base, force, end, memory, symbols, undefined};
 ghost use Rattle.state.specs.Layout.{lent};
-ghost use Rattle.commands.specs.Promise.{Called, Ended};
-ghost use Rattle.loading.specs.Loading.{LoadCalled};
+ghost use Rattle.state.specs.Promise.{Called, Ended};
+ghost use Rattle.loading.specs.Work.{workSize};
 
 // Work memory has 65,536 cells.
 #[no_mangle]
 pub extern "C" fn lnk100_load(state: &mut [u64], work: &mut [u64], file: &[u8]) -> LoadAnswer
-    ensures { λ r. ⌜ LoadCalled (load (lent (now (state .entry))) (eqb (length (now (work .entry))) 65536) (now (file .entry))) (now (state .entry)) r (now (state .exit)) × (now (work .exit) ≡ workAfter 65536 (now (work .entry))) ⌝ }
+    ensures { λ r. ⌜ Called (load (lent (now (state .entry))) (eqb (length (now (work .entry))) workSize) (now (file .entry))) (now (state .entry)) r (now (state .exit)) × (now (work .exit) ≡ workAfter workSize (now (work .entry))) ⌝ }
 {
     loading::load(state, work, file)
 }

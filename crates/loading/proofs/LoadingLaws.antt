@@ -10,68 +10,81 @@ use borrow.Author.Tests.{eq-eqb, ne-eqb, lt-ltb, le-ltb}
 use Rattle.rules.specs.Reading.{Item, readingOf, itemsOf}
 use Rattle.rules.specs.State.{State, marked, broken}
 use Rattle.rules.specs.Load.{Walk, walking, Progress, progress, walkItems, Loaded, walked, walkFrom, loadRead, loadFile}
-use Rattle.rules.specs.Calls.{Lent, holding, LoadOutcome, loadAnswer, loadStopped, loadOutcome, loadState, loadLent, load, shutBy, workAfter}
+use Rattle.rules.specs.Calls.{Lent, holding, Outcome, loadAnswer, loadStopped, loadOutcome, loadState, loadLent, load, shutBy, workAfter}
 use Rattle.rules.specs.declared.answer.LoadAnswer.{LoadAnswer}
 use Rattle.rules.specs.declared.reading.Reading.{Reading}
 use Rattle.rules.specs.declared.reading.Reading.the-variants.{Complete, Stopped}
 use Rattle.state.specs.Layout.{lent, encode, decode, cellsAfter}
 use Rattle.state.specs.Good.{Good, Holds}
 use Rattle.state.proofs.LentLaws.{held-cells}
-use Rattle.search.specs.Searching.{Agrees}
-use Rattle.walking.specs.declared.Walked.{Walked}
-use Rattle.walking.specs.Walking.{Goes, Went}
-use Rattle.loading.specs.Loading.{Loads, LoadCalled}
+use Rattle.state.specs.Promise.{Called}
+use Rattle.rules.specs.declared.answer.Refusal.{Refusal}
+use Rattle.placing.proofs.PlacedLaws.{goes-on, stands}
+use Rattle.walking.specs.declared.WalkSoFar.{WalkSoFar}
+use Rattle.walking.specs.Walking.{unwalked, Tracks, Advances}
+
+-- what a load that is read comes to
+abbrev Loads : Loaded → List ℕ → LoadAnswer → List ℕ → Type 0
+Loads l before a after = Called (loadOutcome l) before a after
 
 -- ---- the walk
 
 -- a walk begins at the state that the cells hold
-begins : (cells : List ℕ) → Goes (progress (walking (decode cells)) 0) 0 0 0 cells
-begins cells = record { agrees = record { number = refl; line-is = refl; state-is = λ _. refl }; rounds-are = refl }
+begins : (cells : List ℕ) → Tracks (progress (walking (decode cells)) 0) unwalked cells
+begins cells = record { agrees = record { refusal-is = refl; state-is = λ _. refl }; rounds-are = refl }
 
-module _ (items : List Item) (before after : List ℕ) (n : ℕ) (w : Walked) (a : LoadAnswer) (went : Went (λ p. walkItems p items) n 0 0 0 before w after) where
-  ends : Goes (walkFrom (decode before) items) (w .fault) (w .line) (w .rounds) after
+module _ (items : List Item) (before after : List ℕ) (n : ℕ) (w : WalkSoFar) (a : LoadAnswer)
+    (went : Advances (λ p. walkItems p items) n unwalked before w after) where
+  abbrev whole : Progress
+  whole = walkFrom (decode before) items
+
+  ends : Tracks whole w after
   ends = went .does (progress (walking (decode before)) 0) (begins before)
 
-  pub walk-accepted : w .fault ≡ 0 → a ≡ loadAnswer 0 0 (w .rounds) → Loads (walked (decode before) (walkFrom (decode before) items)) a after
-  unfolding walked
+  pub walk-accepted :
+      w .refusal .number ≡ 0 → a ≡ loadAnswer 0 0 (w .rounds) → Loads (walked (decode before) whole) before a after
+  unfolding walked cellsAfter
   walk-accepted e p =
-      let on : eqb (walkFrom (decode before) items .walk .number) 0 ≡ true = eq-eqb _ 0 (sym (ends .agrees .number) ∙ e) in
-      rw on
+      rw (goes-on (ends .agrees) e)
       (record {
         answer = p ∙ ap (loadAnswer 0 0) (ends .rounds-are);
         cells = went .good .encoded ∙ ap encode (ends .agrees .state-is e);
       })
 
   -- `back` is what was put back
-  pub walk-refused : (left back : List ℕ) → back ≡ before → w .fault ≢ 0 → Holds left (marked broken (decode back)) → a ≡ loadAnswer (w .fault) (w .line) 0 →
-      Loads (walked (decode before) (walkFrom (decode before) items)) a left
-  unfolding walked
+  pub walk-refused :
+      (left back : List ℕ) → back ≡ before → w .refusal .number ≢ 0 → Holds left (marked broken (decode back))
+      → a ≡ loadAnswer (w .refusal .number) (w .refusal .line) 0 → Loads (walked (decode before) whole) before a left
+  unfolding walked cellsAfter
   walk-refused left back same z h p =
-      let off : eqb (walkFrom (decode before) items .walk .number) 0 ≡ false = ne-eqb _ 0 (λ e. z (ends .agrees .number ∙ e)) in
-      rw off
+      rw (stands (ends .agrees) z)
       (record {
-        answer = p ∙ ap (λ k. loadAnswer k (w .line) 0) (ends .agrees .number) ∙ ap (λ k. loadAnswer (walkFrom (decode before) items .walk .number) k 0) (ends .agrees .line-is);
+        answer = p ∙ ap (λ (r : Refusal). loadAnswer (r .number) (r .line) 0) (ends .agrees .refusal-is);
         cells = held-cells h ∙ ap (λ b. encode (marked broken (decode b))) same;
       })
 
 -- ---- the file
 
-module _ (s : State) (file : List ℕ) (a : LoadAnswer) (after : List ℕ) where
-  pub file-stopped : (k n c : ℕ) → Stopped k n c ≡ readingOf file → Holds after (marked broken s) → a ≡ loadAnswer k n 0 → Loads (loadFile s file) a after
-  unfolding loadFile loadRead
-  file-stopped k n c e h p = subst (λ r. Loads (loadRead s file r) a after) e (record { answer = p; cells = held-cells h })
+module _ (s : State) (file before : List ℕ) (a : LoadAnswer) (after : List ℕ) where
+  pub file-stopped :
+      (k n c : ℕ) → Stopped k n c ≡ readingOf file → Holds after (marked broken s) → a ≡ loadAnswer k n 0
+      → Loads (loadFile s file) before a after
+  unfolding loadFile loadRead cellsAfter
+  file-stopped k n c e h p = subst (λ r. Loads (loadRead s file r) before a after) e (record { answer = p; cells = held-cells h })
 
-  pub file-walked : (items : List Item) → Complete ≡ readingOf file → items ≡ itemsOf file → Loads (walked s (walkFrom s items)) a after → Loads (loadFile s file) a after
+  pub file-walked :
+      (items : List Item) → Complete ≡ readingOf file → items ≡ itemsOf file → Loads (walked s (walkFrom s items)) before a after
+      → Loads (loadFile s file) before a after
   unfolding loadFile loadRead
   file-walked items e i l =
-      subst (λ r. Loads (loadRead s file r) a after) e (subst (λ is. Loads (walked s (walkFrom s is)) a after) i l)
+      subst (λ r. Loads (loadRead s file r) before a after) e (subst (λ is. Loads (walked s (walkFrom s is)) before a after) i l)
 
 -- ---- the call
 
-pub load-stopped : (o : LoadOutcome) (k : ℕ) (cells : List ℕ) (a : LoadAnswer) → o ≡ loadStopped k → a ≡ loadAnswer k 0 0 → LoadCalled o cells a cells
+pub load-stopped : (o : Outcome LoadAnswer) (k : ℕ) (cells : List ℕ) (a : LoadAnswer) → o ≡ loadStopped k → a ≡ loadAnswer k 0 0 → Called o cells a cells
 unfolding cellsAfter
 load-stopped o k cells a e p =
-    record { answer = p ∙ ap (λ (x : LoadOutcome). x .answer) (sym e); cells = ap (λ (x : LoadOutcome). cellsAfter cells (x .left)) (sym e) }
+    record { answer = p ∙ ap (λ (x : Outcome LoadAnswer). x .answer) (sym e); cells = ap (λ (x : Outcome LoadAnswer). cellsAfter cells (x .left)) (sym e) }
 
 module _ (cells : List ℕ) (s : State) (h : lent cells ≡ holding s) (file : List ℕ) (k : ℕ) (e : k ≡ shutBy (s .mark)) where
   pub load-shut : k ≢ 0 → loadLent (lent cells) file ≡ loadStopped k
@@ -82,18 +95,18 @@ module _ (cells : List ℕ) (s : State) (h : lent cells ≡ holding s) (file : L
   unfolding loadLent loadState
   load-long z l = simp (h, eq-eqb (shutBy (s .mark)) 0 (sym e ∙ z), lt-ltb 65536 (length file) l)
 
-  pub load-done : k ≡ 0 → length file ≤ 65536 → (a : LoadAnswer) (after : List ℕ) → Loads (loadFile s file) a after → LoadCalled (loadLent (lent cells) file) cells a after
-  unfolding loadLent loadState cellsAfter
+  pub load-done : k ≡ 0 → length file ≤ 65536 → (a : LoadAnswer) (after : List ℕ) → Loads (loadFile s file) cells a after → Called (loadLent (lent cells) file) cells a after
+  unfolding loadLent loadState
   load-done z l a after d =
       let is : loadLent (lent cells) file ≡ loadOutcome (loadFile s file) = simp (h, eq-eqb (shutBy (s .mark)) 0 (sym e ∙ z), le-ltb 65536 (length file) l) in
-      subst (λ (o : LoadOutcome). LoadCalled o cells a after) (sym is) (record { answer = d .answer; cells = d .cells })
+      subst (λ (o : Outcome LoadAnswer). Called o cells a after) (sym is) d
 
 module _ (cells : List ℕ) (work file : List ℕ) (a : LoadAnswer) (after : List ℕ) where
-  pub load-room : length work ≢ 65536 → a ≡ loadAnswer 1 0 0 → LoadCalled (load (lent cells) (eqb (length work) 65536) file) cells a cells
+  pub load-room : length work ≢ 65536 → a ≡ loadAnswer 1 0 0 → Called (load (lent cells) (eqb (length work) 65536) file) cells a cells
   unfolding load
   load-room z p = load-stopped _ 1 cells a (simp (ne-eqb (length work) 65536 z)) p
 
-  pub load-whole : length work ≡ 65536 → LoadCalled (loadLent (lent cells) file) cells a after → LoadCalled (load (lent cells) (eqb (length work) 65536) file) cells a after
+  pub load-whole : length work ≡ 65536 → Called (loadLent (lent cells) file) cells a after → Called (load (lent cells) (eqb (length work) 65536) file) cells a after
   unfolding load
   load-whole e d = rw (eq-eqb (length work) 65536 e) d
 

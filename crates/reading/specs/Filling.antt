@@ -3,9 +3,11 @@ use Prim.Native.Nat.{ℕ, _+_, _*_, _<_, _≤_}
 use mathlib.Core.List.{List, [], _∷_, _++_}
 use mathlib.Core.Path.{_≡_}
 use lib.ListN.{length}
+use Rattle.rules.specs.Limits.{longestFile}
 use Rattle.rules.specs.Calls.{overwritten}
 use Rattle.rules.specs.Reading.{readingOf}
 use Rattle.rules.specs.declared.reading.Reading.{Reading}
+use Rattle.tables.specs.Tables.{mostParts, partRoom, mostRows, rowRoom}
 use Rattle.tables.specs.Cells.{partCells, rowCells}
 use Rattle.reading.specs.TwoTables.{Tables, tablesOf}
 use Rattle.reading.specs.declared.fill.Filled.{Filled}
@@ -28,13 +30,13 @@ rowsIn t = rowCells (t .rows)
 
 -- there is room for one more part, and for one more row
 pub record PartRoom (f : Filled) (cells : List ℕ) : Type 0 where
-  pub free : f .parts < 32768
-  pub whole : length cells ≡ 65536
+  pub free : f .parts < mostParts
+  pub whole : length cells ≡ partRoom
 
 pub record RowRoom (f : Filled) (cells : List ℕ) : Type 0 where
-  pub free : f .rows < 16384
-  pub whole : length cells ≡ 32768
-  pub few : f .parts ≤ 32768
+  pub free : f .rows < mostRows
+  pub whole : length cells ≡ rowRoom
+  pub few : f .parts ≤ mostParts
   pub open-object : f .object ≤ f .parts
   pub open-section : f .section ≤ f .rows
 
@@ -48,9 +50,9 @@ pub record Fills (table : Tables → List ℕ) (change : Tables → Tables) (f :
 -- ---- the whole file
 
 pub record Lent (file parts rows : List ℕ) : Type 0 where
-  pub short : length file ≤ 65536
-  pub part-room : length parts ≡ 65536
-  pub row-room : length rows ≡ 32768
+  pub short : length file ≤ longestFile
+  pub part-room : length parts ≡ partRoom
+  pub row-room : length rows ≡ rowRoom
 
 abbrev pub fileRead : Reading → Filled → FileRead
 fileRead r f = record { reading = r; parts = f .parts; rows = f .rows }
@@ -62,5 +64,5 @@ pub record ReadInto (file lentParts lentRows : List ℕ) (r : FileRead) (partsLe
   pub rows : r .rows ≡ length (tablesOf file .rows)
   pub part-cells : partsLeft ≡ overwritten (partsIn (tablesOf file)) lentParts
   pub row-cells : rowsLeft ≡ overwritten (rowsIn (tablesOf file)) lentRows
-  pub few-parts : r .parts ≤ 32768
-  pub few-rows : r .rows ≤ 16384
+  pub few-parts : r .parts ≤ mostParts
+  pub few-rows : r .rows ≤ mostRows

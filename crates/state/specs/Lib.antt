@@ -2,3 +2,4 @@ pub mod Layout
 pub mod Good
 pub mod Table
 pub mod Words
+pub mod Promise

@@ -119,6 +119,20 @@ memberRow = 2
 abbrev pub sectionRow : ℕ
 sectionRow = 3
 
+-- ---- room for the parts and the rows of any file of 65,536 bytes: how many, and their cells
+
+abbrev pub mostParts : ℕ
+mostParts = 32768
+
+abbrev pub partRoom : ℕ
+partRoom = 2 * mostParts
+
+abbrev pub mostRows : ℕ
+mostRows = 16384
+
+abbrev pub rowRoom : ℕ
+rowRoom = 2 * mostRows
+
 -- ---- element i of a table
 
 abbrev pub headIn : List ℕ → ℕ → ℕ

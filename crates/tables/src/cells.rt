@@ -4,6 +4,11 @@ ghost use mathlib.Core.Path.{_≡_};
 ghost use lib.ListN.{getD};
 ghost use Rattle.tables.specs.Tables.{headIn, bodyIn};
 
+// Room for the parts, and for the rows, of any file of 65,536 bytes.
+pub const PART_ROOM: usize = 65536;
+
+pub const ROW_ROOM: usize = 32768;
+
 // A cell of a table, 0 past its end.
 pub fn cell(cells: &[u64], i: usize) -> u64
     ensures { λ r. ⌜ r ≡ getD (now (cells .entry)) i 0 ⌝ }

@@ -8,31 +8,24 @@ use Rattle.cells.proofs.clear.Reads as clear-reads
 use Rattle.loading.proofs.answer.Reads as answer-reads
 use Rattle.loading.proofs.load_tested.Reads as load-tested-reads
 
--- src/lib.rt:94:9
 answer-requires : tie.Need-answer-requires
 answer-requires c κs = search needs
 
--- src/lib.rt:94:9
 returns : tie.Need-returns
 returns c = (load-room (c .before .before .before .before .before .args .state .now) (c .before .before .before .before .before .args .work .now) (c .before .before .before .before .before .args .file .now) (c .answer .result) (c .before .before .before .before .before .args .state .now) (c .before .if1 .taken) (c .answer .ensures), work-kept (c .before .before .before .before .before .args .work .now) (c .before .if1 .taken))
 
--- src/lib.rt:96:9
 load-tested-requires : tie.Need-load-tested-requires
 load-tested-requires c κs = search needs
 
--- src/lib.rt:97:5
 clear-requires : tie.Need-clear-requires
 clear-requires c κs = search needs
 
--- src/lib.rt:90:1
 same-length : tie.Need-same-length
 same-length c = search needs
 
--- src/lib.rt:90:1
 same-length-2 : tie.Need-same-length-2
 same-length-2 c = search needs
 
--- src/lib.rt:90:1
 returns-2 : tie.Need-returns-2
 returns-2 c = (load-whole (c .before .before .before .before .before .before .before .before .before .before .before .before .before .before .before .args .state .now) (c .before .before .before .before .before .before .before .before .before .before .before .before .before .before .before .args .work .now) (c .before .before .before .before .before .before .before .before .before .before .before .before .before .before .before .args .file .now) (c .before .before .before .before .before .before .before .before .load-tested .result) _ (c .before .before .before .before .before .before .before .before .before .before .before .if1 .left) (c .before .before .before .before .before .before .before .before .load-tested .ensures), work-cleared (c .before .before .before .before .before .before .before .before .before .before .before .before .before .before .before .args .work .now) (c .before .before .before .before .before .before .before .before .load-tested .last .1 .0) _ (c .before .before .before .before .before .before .before .before .before .before .before .if1 .left) (search needs) (c .before .before .clear .ensures))
 

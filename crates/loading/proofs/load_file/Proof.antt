@@ -14,70 +14,51 @@ use Rattle.loading.proofs.walk_file.Reads as walk-file-reads
 use Rattle.reading.proofs.read_file.Reads as read-file-reads
 use Rattle.state.proofs.header.set_mark.Reads as set-mark-reads
 
--- src/lib.rt:59:35
 slice-aggregate-read-file : tie.Need-slice-aggregate-read-file
 slice-aggregate-read-file c = search needs
 
--- src/lib.rt:59:9
 read-file-requires : tie.Need-read-file-requires
 read-file-requires c κs = search needs
 
--- src/lib.rt:62:28
 enum-known-reading : tie.Need-enum-known-reading
 enum-known-reading c = search needs
 
--- src/lib.rt:63:13
 set-mark-requires : tie.Need-set-mark-requires
 set-mark-requires c κs = search needs
 
--- src/lib.rt:64:20
 cast-answer : tie.Need-cast-answer
 cast-answer c = search needs
 
--- src/lib.rt:64:35
-cast-answer-2 : tie.Need-cast-answer-2
-cast-answer-2 c = search needs
-
--- src/lib.rt:64:13
 answer-requires : tie.Need-answer-requires
 answer-requires c κs = search needs
 
--- src/lib.rt:66:40
 enum-told : tie.Need-enum-told
 enum-told c = search needs
 
--- src/lib.rt:66:46
 slice-aggregate-walk-file : tie.Need-slice-aggregate-walk-file
 slice-aggregate-walk-file c = search needs
 
--- src/lib.rt:66:30
 walk-file-requires : tie.Need-walk-file-requires
 walk-file-requires c κs = (omega (arith, c .before .before .before .before .before .before .before .before .read-file .ensures .few-rows), (items-in-sound (c .before .before .before .before .before .before .before .before .read-file .ensures), c .before .before .before .before .before .before .before .before .before .before .before .before .before .before .pre .0))
 
--- src/lib.rt:53:1
 same-length : tie.Need-same-length
 same-length c = search needs
 
--- src/lib.rt:53:1
 same-length-2 : tie.Need-same-length-2
 same-length-2 c = search needs
 
--- src/lib.rt:53:1
 returns : tie.Need-returns
 unfolding markOf
-returns c = file-stopped (decode (c .before .before .before .before .before .before .before .before .before .before .before .before .before .before .before .before .before .args .state .now)) (c .before .before .before .before .before .before .before .before .before .before .before .before .before .before .before .before .before .args .file .now) (c .answer .result) _ _ _ _ (sym (c .before .before .before .before .before .before .reading .given .1) ∙ c .before .before .before .before .before .before .before .before .before .before .before .read-file .ensures .reading) (c .before .before .before .set-mark .ensures) (c .answer .ensures)
+returns c = file-stopped (decode (c .before .before .before .before .before .before .before .before .before .before .before .before .before .before .before .before .before .args .state .now)) (c .before .before .before .before .before .before .before .before .before .before .before .before .before .before .before .before .before .args .file .now) (c .before .before .before .before .before .before .before .before .before .before .before .before .before .before .before .before .before .args .state .now) (c .answer .result) _ _ _ _ (sym (c .before .before .before .before .before .before .reading .given .1) ∙ c .before .before .before .before .before .before .before .before .before .before .before .read-file .ensures .reading) (c .before .before .before .set-mark .ensures) (c .answer .ensures)
 
--- src/lib.rt:53:1
 same-length-3 : tie.Need-same-length-3
 same-length-3 c = search needs
 
--- src/lib.rt:53:1
 same-length-4 : tie.Need-same-length-4
 same-length-4 c = search needs
 
--- src/lib.rt:53:1
 returns-2 : tie.Need-returns-2
-returns-2 c = file-walked (decode (c .before .before .before .before .before .before .before .before .before .before .before .before .before .before .before .before .before .args .state .now)) (c .before .before .before .before .before .before .before .before .before .before .before .before .before .before .before .before .before .args .file .now) (c .before .before .walk-file .result) _ _ (sym (c .before .before .before .before .before .before .enum-told .given .1) ∙ c .before .before .before .before .before .before .before .before .before .before .before .read-file .ensures .reading) (tables-hold (c .before .before .before .before .before .before .before .before .before .before .before .read-file .ensures)) (c .before .before .walk-file .ensures)
+returns-2 c = file-walked (decode (c .before .before .before .before .before .before .before .before .before .before .before .before .before .before .before .before .before .args .state .now)) (c .before .before .before .before .before .before .before .before .before .before .before .before .before .before .before .before .before .args .file .now) (c .before .before .before .before .before .before .before .before .before .before .before .before .before .before .before .before .before .args .state .now) (c .before .before .walk-file .result) _ _ (sym (c .before .before .before .before .before .before .enum-told .given .1) ∙ c .before .before .before .before .before .before .before .before .before .before .before .read-file .ensures .reading) (tables-hold (c .before .before .before .before .before .before .before .before .before .before .before .read-file .ensures)) (c .before .before .walk-file .ensures)
 
 pub load-file-spec : {M : Type 1} → statement M
 load-file-spec =
@@ -88,7 +69,6 @@ load-file-spec =
     enum-known-reading
     set-mark-requires
     cast-answer
-    cast-answer-2
     answer-requires
     enum-told
     slice-aggregate-walk-file

@@ -14,64 +14,49 @@ use Rattle.loading.proofs.load_file.Reads as load-file-reads
 use Rattle.soundness.proofs.memory.refusal.Reads as refusal-reads
 use Rattle.state.proofs.header.shut_by.Reads as shut-by-reads
 
--- src/lib.rt:75:9
 refusal-requires : tie.Need-refusal-requires
 refusal-requires c κs = search needs
 
--- src/lib.rt:77:9
 answer-requires : tie.Need-answer-requires
 answer-requires c κs = search needs
 
--- src/lib.rt:77:9
 same-length : tie.Need-same-length
 same-length c = search needs
 
--- src/lib.rt:77:9
 returns : tie.Need-returns
 unfolding loadLent
 returns c = load-stopped _ (c .before .before .refusal .result) (c .before .before .before .before .before .before .before .args .state .now) _ (refused (λ l. loadLent l (c .before .before .before .before .before .before .before .args .file .now)) loadStopped refl refl (c .before .before .before .before .before .before .before .args .state .now) (c .before .before .refusal .result) (c .before .before .refusal .ensures) (c .before .if1 .taken)) (c .answer .ensures)
 
--- src/lib.rt:79:9
 shut-by-requires : tie.Need-shut-by-requires
 shut-by-requires c κs = c .before .before .refusal .ensures .good (c .before .if1 .left)
 
--- src/lib.rt:81:9
 answer-requires-2 : tie.Need-answer-requires-2
 answer-requires-2 c κs = search needs
 
--- src/lib.rt:81:9
 same-length-2 : tie.Need-same-length-2
 same-length-2 c = search needs
 
--- src/lib.rt:81:9
 returns-2 : tie.Need-returns-2
 returns-2 c = load-stopped _ (c .before .before .shut-by .result) (c .before .before .before .before .before .before .before .before .before .before .args .state .now) _ (load-shut (c .before .before .before .before .before .before .before .before .before .before .args .state .now) (decode (c .before .before .before .before .before .before .before .before .before .before .args .state .now)) (c .before .before .before .before .before .refusal .ensures .holds (c .before .before .before .before .if1 .left)) (c .before .before .before .before .before .before .before .before .before .before .args .file .now) (c .before .before .shut-by .result) (c .before .before .shut-by .ensures) (c .before .if2 .taken)) (c .answer2 .ensures)
 
--- src/lib.rt:84:9
 answer-requires-3 : tie.Need-answer-requires-3
 answer-requires-3 c κs = search needs
 
--- src/lib.rt:84:9
 same-length-3 : tie.Need-same-length-3
 same-length-3 c = search needs
 
--- src/lib.rt:84:9
 returns-3 : tie.Need-returns-3
 returns-3 c = load-stopped _ 5 (c .before .before .before .before .before .before .before .before .before .before .before .args .state .now) _ (load-long (c .before .before .before .before .before .before .before .before .before .before .before .args .state .now) (decode (c .before .before .before .before .before .before .before .before .before .before .before .args .state .now)) (c .before .before .before .before .before .before .refusal .ensures .holds (c .before .before .before .before .before .if1 .left)) (c .before .before .before .before .before .before .before .before .before .before .before .args .file .now) (c .before .before .before .shut-by .result) (c .before .before .before .shut-by .ensures) (c .before .before .if2 .left) (c .before .if3 .taken)) (c .answer3 .ensures)
 
--- src/lib.rt:86:5
 load-file-requires : tie.Need-load-file-requires
 load-file-requires c κs = (c .before .before .before .before .before .before .before .refusal .ensures .good (c .before .before .before .before .before .before .if1 .left), (c .before .before .before .before .before .before .before .before .before .before .before .before .pre, omega (arith, c .before .before .if3 .left)))
 
--- src/lib.rt:71:1
 same-length-4 : tie.Need-same-length-4
 same-length-4 c = search needs
 
--- src/lib.rt:71:1
 same-length-5 : tie.Need-same-length-5
 same-length-5 c = search needs
 
--- src/lib.rt:71:1
 returns-4 : tie.Need-returns-4
 returns-4 c = load-done (c .before .before .before .before .before .before .before .before .before .before .before .before .before .before .before .before .before .args .state .now) (decode (c .before .before .before .before .before .before .before .before .before .before .before .before .before .before .before .before .before .args .state .now)) (c .before .before .before .before .before .before .before .before .before .before .before .before .refusal .ensures .holds (c .before .before .before .before .before .before .before .before .before .before .before .if1 .left)) (c .before .before .before .before .before .before .before .before .before .before .before .before .before .before .before .before .before .args .file .now) (c .before .before .before .before .before .before .before .before .before .shut-by .result) (c .before .before .before .before .before .before .before .before .before .shut-by .ensures) (c .before .before .before .before .before .before .before .before .if2 .left) (omega (arith, c .before .before .before .before .before .before .before .if3 .left)) (c .before .before .before .before .load-file .result) _ (c .before .before .before .before .load-file .ensures)
 

@@ -1,0 +1,17 @@
+-- What a call promises, whatever it is lent: its answer and every cell of state memory afterwards are those of the call's definition
+-- in rules' Calls.
+use Prim.Native.Nat.{ℕ}
+use mathlib.Core.List.{List}
+use mathlib.Core.Path.{_≡_}
+use Rattle.rules.specs.Calls.{Outcome, EndOutcome}
+use Rattle.rules.specs.declared.answer.EndAnswer.{EndAnswer}
+use Rattle.state.specs.Layout.{cellsAfter}
+
+pub record Called {A : Type 0} (o : Outcome A) (before : List ℕ) (r : A) (after : List ℕ) : Type 0 where
+  pub answer : r ≡ o .answer
+  pub cells : after ≡ cellsAfter before (o .left)
+
+-- END: every byte of the output too
+pub record Ended (o : EndOutcome) (before : List ℕ) (r : EndAnswer) (after out : List ℕ) : Type 0 where
+  pub call : Called (o .call) before r after
+  pub output : out ≡ o .output
