@@ -14,29 +14,16 @@ use Rattle.rules.specs.Text.{any, isName, packName, nameOf}
 use Rattle.rules.specs.State.{Symbol, State, state, Mark, unmarked, broken, frozen, fresh, marked, nameIs, isSymbol}
 use Rattle.rules.specs.Placing.{mention}
 use Rattle.rules.specs.Image.{imageOf}
-use Rattle.rules.specs.Calls.{Lent, wrongLength, damaged, holding, now, asBefore, shutBy, CallOutcome, callAnswer, stopped, done, withSymbols, reset, baseState, base, forceState, force, EndOutcome, endAnswer, endStopped, endDone, isBroken, endState, end, overwritten}
+use Rattle.rules.specs.Calls.{Lent, wrongLength, damaged, holding, now, asBefore, shutBy, Outcome, callAnswer, stopped, done, withSymbols, reset, baseState, base, forceState, force, EndOutcome, endAnswer, endStopped, endDone, isBroken, endState, end, overwritten}
 use Rattle.rules.specs.declared.answer.CallAnswer.{CallAnswer}
 use Rattle.rules.specs.declared.answer.EndAnswer.{EndAnswer}
-use Rattle.state.specs.Layout.{size, lent, soundCells, encode, decode, cellsAfter, markCell}
+use Rattle.state.specs.Layout.{size, lent, soundCells, encode, decode, markCell}
 use Rattle.state.specs.Good.{Good, Holds, withNext}
 use Rattle.state.specs.Table.{Joined}
 use Rattle.image.specs.Output.{overlay, Written}
-use Rattle.state.proofs.LentLaws.{lent-wrong, held-cells, left-cells}
-use Rattle.commands.specs.Promise.{Called, Ended}
-
--- ---- any call
-
-pub called-stopped : (o : CallOutcome) (k : ℕ) (cells : List ℕ) (a : CallAnswer) → o ≡ stopped k → a ≡ callAnswer k → Called o cells a cells
-unfolding cellsAfter
-called-stopped o k cells a e p =
-    record { answer = p ∙ ap (λ (x : CallOutcome). x .answer) (sym e); cells = ap (λ (x : CallOutcome). cellsAfter cells (x .left)) (sym e) }
-
-pub called-done : (o : CallOutcome) (s : State) (cells after : List ℕ) (a : CallAnswer) → o ≡ done s → Holds after s → a ≡ callAnswer 0 → Called o cells a after
-called-done o s cells after a e h p =
-    record {
-      answer = p ∙ ap (λ (x : CallOutcome). x .answer) (sym e);
-      cells = left-cells cells h ∙ ap (λ (x : CallOutcome). cellsAfter cells (x .left)) (sym e);
-    }
+use Rattle.state.proofs.LentLaws.{lent-wrong, held-cells}
+use Rattle.state.specs.Promise.{Called, Ended}
+use Rattle.state.proofs.PromiseLaws.{called-stopped, called-done}
 
 -- ---- RESET
 
@@ -154,27 +141,25 @@ module _ (cells : List ℕ) (s : State) (h : lent cells ≡ holding s) (name : L
               simp (le-leb 256 (length t) (omega (arith, mention-new x t q, over)))
 
 -- what joined the table, or did not, as FORCE answers it
-module _ (cells : List ℕ) (s : State) (t : List Symbol) (o : CallOutcome) (after : List ℕ) (r : Bool) (j : Joined t s r after) where
+module _ (cells : List ℕ) (s : State) (t : List Symbol) (o : Outcome CallAnswer) (after : List ℕ) (r : Bool) (j : Joined t s r after) where
   pub called-joined : (a : CallAnswer) → r ≡ true → (leb (length t) 256 ≡ true → o ≡ done (withSymbols t s)) → a ≡ callAnswer 0 → Called o cells a after
   called-joined a yes-room f p =
       let room = sym (j .room) ∙ yes-room in
-      called-done o (withSymbols t s) cells after a (f room) (rw room at (j .holds)) p
+      called-done o _ (withSymbols t s) cells after a (f room) (rw room at (j .holds)) p
 
   pub called-kept : (a : CallAnswer) → Good cells → s ≡ decode cells → r ≡ false → (leb (length t) 256 ≡ false → o ≡ stopped 14) → a ≡ callAnswer 14 → Called o cells a after
   called-kept a good e no-room f p =
       let full = sym (j .room) ∙ no-room in
       let kept : Holds after s = rw full at (j .holds) in
       let same : after ≡ cells = held-cells kept ∙ ap encode e ∙ sym (good .encoded) in
-      subst (Called o cells a) (sym same) (called-stopped o 14 cells a (f full) p)
+      subst (Called o cells a) (sym same) (called-stopped o _ cells a (f full) p)
 
 -- ---- END
 
 pub ended-stopped : (o : EndOutcome) (k : ℕ) (cells out : List ℕ) (a : EndAnswer) → o ≡ endStopped k out → a ≡ endAnswer k 0 → Ended o cells a cells out
-unfolding cellsAfter
 ended-stopped o k cells out a e p =
     record {
-      answer = p ∙ ap (λ (x : EndOutcome). x .answer) (sym e);
-      cells = ap (λ (x : EndOutcome). cellsAfter cells (x .left)) (sym e);
+      call = called-stopped (o .call) _ cells a (ap (λ (x : EndOutcome). x .call) e) p;
       output = ap (λ (x : EndOutcome). x .output) (sym e);
     }
 
@@ -184,8 +169,7 @@ pub ended-done : (o : EndOutcome) (s : State) (cells after out out′ : List ℕ
 unfolding overlay
 ended-done o s cells after out out′ r n a e h w q p =
     record {
-      answer = p ∙ ap (endAnswer 0) q ∙ ap (λ (x : EndOutcome). x .answer) (sym e);
-      cells = left-cells cells h ∙ ap (λ (x : EndOutcome). cellsAfter cells (x .left)) (sym e);
+      call = called-done (o .call) _ (marked frozen s) cells after a (ap (λ (x : EndOutcome). x .call) e) h (p ∙ ap (endAnswer 0) q);
       output =
           w .out
           ∙ ap (λ k. imageOf s ++ drop k out) (zero-add (length (imageOf s)))

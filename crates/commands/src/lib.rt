@@ -2,20 +2,31 @@
 // what it is lent.
 use image::image_length;
 use image::write_image;
+use rules::answer::BUFFER;
 use rules::answer::CallAnswer;
+use rules::answer::DONE;
 use rules::answer::EndAnswer;
+use rules::answer::NAME;
+use rules::answer::OUT;
+use rules::answer::RANGE;
+use rules::answer::RESET;
+use rules::answer::TABLE;
+use rules::limits::LARGEST_BASE;
 use soundness::memory::refusal;
 use state::header::mark;
 use state::header::set_mark;
 use state::header::set_next;
 use state::header::shut_by;
+use state::layout::BROKEN;
+use state::layout::FROZEN;
+use state::layout::SIZE;
 use state::table::mention;
 use text::names::Name;
 use text::names::read_name;
 ghost use mathlib.Core.Path.{_≡_};
 ghost use Rattle.rules.specs.Calls.{callAnswer, endAnswer, reset as reset-outcome, base as base-outcome, force as force-outcome, end as end-outcome};
 ghost use Rattle.state.specs.Layout.{lent};
-ghost use Rattle.commands.specs.Promise.{Called, Ended};
+ghost use Rattle.state.specs.Promise.{Called, Ended};
 
 fn answer(number: u64) -> CallAnswer
     ensures { λ r. ⌜ r ≡ callAnswer number ⌝ }
@@ -27,11 +38,11 @@ fn answer(number: u64) -> CallAnswer
 pub fn reset(state: &mut [u64]) -> CallAnswer
     ensures { λ r. ⌜ Called (reset-outcome (lent (now (state .entry)))) (now (state .entry)) r (now (state .exit)) ⌝ }
 {
-    if state.len() != 8708 {
-        return answer(1);
+    if state.len() != SIZE {
+        return answer(BUFFER);
     }
     state::memory::reset(state);
-    answer(0)
+    answer(DONE)
 }
 
 // The next address.
@@ -39,18 +50,18 @@ pub fn base(state: &mut [u64], address: u64) -> CallAnswer
     ensures { λ r. ⌜ Called (base-outcome (lent (now (state .entry))) address) (now (state .entry)) r (now (state .exit)) ⌝ }
 {
     let k = refusal(state);
-    if k != 0 {
+    if k != DONE {
         return answer(k);
     }
     let shut = shut_by(state);
-    if shut != 0 {
+    if shut != DONE {
         return answer(shut);
     }
-    if 4095 < address {
-        return answer(12);
+    if LARGEST_BASE < address {
+        return answer(RANGE);
     }
     set_next(state, address as usize);
-    answer(0)
+    answer(DONE)
 }
 
 // A name as an undefined symbol.
@@ -58,20 +69,20 @@ pub fn force(state: &mut [u64], name: &[u8]) -> CallAnswer
     ensures { λ r. ⌜ Called (force-outcome (lent (now (state .entry))) (now (name .entry))) (now (state .entry)) r (now (state .exit)) ⌝ }
 {
     let k = refusal(state);
-    if k != 0 {
+    if k != DONE {
         return answer(k);
     }
     let shut = shut_by(state);
-    if shut != 0 {
+    if shut != DONE {
         return answer(shut);
     }
     let Name::Packed(packed) = read_name(name) else {
-        return answer(15);
+        return answer(NAME);
     };
     if mention(state, packed) {
-        return answer(0);
+        return answer(DONE);
     }
-    answer(14)
+    answer(TABLE)
 }
 
 fn end_answer(number: u64, length: u64) -> EndAnswer
@@ -89,17 +100,17 @@ pub fn end(state: &mut [u64], out: &mut [u8]) -> EndAnswer
     ensures { λ r. ⌜ Ended (end-outcome (lent (now (state .entry))) (now (out .entry))) (now (state .entry)) r (now (state .exit)) (now (out .exit)) ⌝ }
 {
     let k = refusal(state);
-    if k != 0 {
+    if k != DONE {
         return end_answer(k, 0);
     }
-    if mark(state) == 1 {
-        return end_answer(3, 0);
+    if mark(state) == BROKEN {
+        return end_answer(RESET, 0);
     }
     let n = image_length(state);
     if out.len() < n {
-        return end_answer(16, 0);
+        return end_answer(OUT, 0);
     }
     write_image(state, out);
-    set_mark(state, 2);
-    end_answer(0, n as u64)
+    set_mark(state, FROZEN);
+    end_answer(DONE, n as u64)
 }

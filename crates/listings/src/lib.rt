@@ -1,9 +1,10 @@
 // The calls that only look: MEMORY, SYMBOLS and UNDEFINED. They work on broken and frozen states too.
-use image::high;
+use rules::answer::DONE;
 use rules::answer::MemoryAnswer;
 use rules::answer::SymbolAnswer;
 use rules::answer::UndefinedAnswer;
 use soundness::memory::refusal;
+use state::header::high;
 use state::header::symbol_count;
 use state::table::symbol_at;
 use state::table::undefined_position;
@@ -17,7 +18,7 @@ pub fn memory(state: &[u64]) -> MemoryAnswer
     ensures { λ r. ⌜ r ≡ memory-answer (lent (now (state .entry))) ⌝ }
 {
     let k = refusal(state);
-    if k != 0 {
+    if k != DONE {
         return MemoryAnswer {
             number: k,
             line: 0,
@@ -25,7 +26,7 @@ pub fn memory(state: &[u64]) -> MemoryAnswer
         };
     }
     MemoryAnswer {
-        number: 0,
+        number: DONE,
         line: 0,
         high: high(state),
     }
@@ -50,16 +51,16 @@ pub fn symbols(state: &[u64], index: u64) -> SymbolAnswer
     ensures { λ r. ⌜ r ≡ symbols-answer (lent (now (state .entry))) index ⌝ }
 {
     let k = refusal(state);
-    if k != 0 {
+    if k != DONE {
         return no_symbol(k, 0);
     }
     let count = symbol_count(state);
     if count as u64 <= index {
-        return no_symbol(0, 1);
+        return no_symbol(DONE, 1);
     }
     let s = symbol_at(state, index as usize);
     SymbolAnswer {
-        number: 0,
+        number: DONE,
         line: 0,
         none: 0,
         name: s.name,
@@ -87,16 +88,16 @@ pub fn undefined(state: &[u64], index: u64) -> UndefinedAnswer
     ensures { λ r. ⌜ r ≡ undefined-answer (lent (now (state .entry))) index ⌝ }
 {
     let k = refusal(state);
-    if k != 0 {
+    if k != DONE {
         return no_undefined(k, 0);
     }
     let position = undefined_position(state, index);
     if symbol_count(state) <= position {
-        return no_undefined(0, 1);
+        return no_undefined(DONE, 1);
     }
     let s = symbol_at(state, position);
     UndefinedAnswer {
-        number: 0,
+        number: DONE,
         line: 0,
         none: 0,
         name: s.name,

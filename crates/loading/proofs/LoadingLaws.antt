@@ -18,6 +18,7 @@ use Rattle.state.specs.Layout.{lent, encode, decode, cellsAfter}
 use Rattle.state.specs.Good.{Good, Holds}
 use Rattle.state.proofs.LentLaws.{held-cells}
 use Rattle.state.specs.Promise.{Called}
+use Rattle.state.proofs.PromiseLaws.{called-stopped}
 use Rattle.rules.specs.declared.answer.Refusal.{Refusal}
 use Rattle.placing.proofs.PlacedLaws.{goes-on, stands}
 use Rattle.walking.specs.declared.WalkSoFar.{WalkSoFar}
@@ -81,11 +82,6 @@ module _ (s : State) (file before : List ℕ) (a : LoadAnswer) (after : List ℕ
 
 -- ---- the call
 
-pub load-stopped : (o : Outcome LoadAnswer) (k : ℕ) (cells : List ℕ) (a : LoadAnswer) → o ≡ loadStopped k → a ≡ loadAnswer k 0 0 → Called o cells a cells
-unfolding cellsAfter
-load-stopped o k cells a e p =
-    record { answer = p ∙ ap (λ (x : Outcome LoadAnswer). x .answer) (sym e); cells = ap (λ (x : Outcome LoadAnswer). cellsAfter cells (x .left)) (sym e) }
-
 module _ (cells : List ℕ) (s : State) (h : lent cells ≡ holding s) (file : List ℕ) (k : ℕ) (e : k ≡ shutBy (s .mark)) where
   pub load-shut : k ≢ 0 → loadLent (lent cells) file ≡ loadStopped k
   unfolding loadLent loadState
@@ -104,7 +100,7 @@ module _ (cells : List ℕ) (s : State) (h : lent cells ≡ holding s) (file : L
 module _ (cells : List ℕ) (work file : List ℕ) (a : LoadAnswer) (after : List ℕ) where
   pub load-room : length work ≢ 65536 → a ≡ loadAnswer 1 0 0 → Called (load (lent cells) (eqb (length work) 65536) file) cells a cells
   unfolding load
-  load-room z p = load-stopped _ 1 cells a (simp (ne-eqb (length work) 65536 z)) p
+  load-room z p = called-stopped _ _ cells a (simp (ne-eqb (length work) 65536 z)) p
 
   pub load-whole : length work ≡ 65536 → Called (loadLent (lent cells) file) cells a after → Called (load (lent cells) (eqb (length work) 65536) file) cells a after
   unfolding load

@@ -9,4 +9,5 @@ pub mod TableLaws
 pub mod WordLaws
 pub mod FreshLaws
 pub mod LentLaws
+pub mod PromiseLaws
 pub mod CallLaws

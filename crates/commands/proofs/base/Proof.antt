@@ -2,7 +2,8 @@ use native.Mathlib.Omega.{arith}
 use mathlib.Core.Path.{refl, sym, _∙_}
 use Rattle.rules.specs.Calls.{base, stopped}
 use Rattle.state.specs.Layout.{decode}
-use Rattle.commands.proofs.CommandLaws.{called-stopped, called-done, base-shut, base-over, base-done}
+use Rattle.state.proofs.PromiseLaws.{called-stopped, called-done}
+use Rattle.commands.proofs.CommandLaws.{base-shut, base-over, base-done}
 use Rattle.soundness.proofs.RefusalLaws.{refused}
 use borrow.Author.Needs.{needs}
 use Rattle.commands.proofs.base.Statement.{statement}
@@ -25,7 +26,7 @@ same-length c = search needs
 
 returns : tie.Need-returns
 unfolding base
-returns c = called-stopped _ (c .before .before .refusal .result) (c .before .before .before .before .before .args .state .now) _ (refused (λ l. base l (c .before .before .before .before .before .args .address)) stopped refl refl (c .before .before .before .before .before .args .state .now) (c .before .before .refusal .result) (c .before .before .refusal .ensures) (c .before .if1 .taken)) (c .answer .ensures)
+returns c = called-stopped _ _ (c .before .before .before .before .before .args .state .now) _ (refused (λ l. base l (c .before .before .before .before .before .args .address)) stopped refl refl (c .before .before .before .before .before .args .state .now) (c .before .before .refusal .result) (c .before .before .refusal .ensures) (c .before .if1 .taken)) (c .answer .ensures)
 
 shut-by-requires : tie.Need-shut-by-requires
 shut-by-requires c κs = (c .before .before .refusal .ensures .good (c .before .if1 .left))
@@ -37,7 +38,7 @@ same-length-2 : tie.Need-same-length-2
 same-length-2 c = search needs
 
 returns-2 : tie.Need-returns-2
-returns-2 c = called-stopped _ (c .before .before .shut-by .result) (c .before .before .before .before .before .before .before .before .args .state .now) _ (base-shut (c .before .before .before .before .before .before .before .before .args .state .now) (decode (c .before .before .before .before .before .before .before .before .args .state .now)) (c .before .before .before .before .before .refusal .ensures .holds (c .before .before .before .before .if1 .left)) (c .before .before .before .before .before .before .before .before .args .address) (c .before .before .shut-by .result) (c .before .before .shut-by .ensures) (c .before .if2 .taken)) (c .answer2 .ensures)
+returns-2 c = called-stopped _ _ (c .before .before .before .before .before .before .before .before .args .state .now) _ (base-shut (c .before .before .before .before .before .before .before .before .args .state .now) (decode (c .before .before .before .before .before .before .before .before .args .state .now)) (c .before .before .before .before .before .refusal .ensures .holds (c .before .before .before .before .if1 .left)) (c .before .before .before .before .before .before .before .before .args .address) (c .before .before .shut-by .result) (c .before .before .shut-by .ensures) (c .before .if2 .taken)) (c .answer2 .ensures)
 
 answer-requires-3 : tie.Need-answer-requires-3
 answer-requires-3 c κs = search needs
@@ -46,7 +47,7 @@ same-length-3 : tie.Need-same-length-3
 same-length-3 c = search needs
 
 returns-3 : tie.Need-returns-3
-returns-3 c = called-stopped _ 12 (c .before .before .before .before .before .before .before .before .before .args .state .now) _ (base-over (c .before .before .before .before .before .before .before .before .before .args .state .now) (decode (c .before .before .before .before .before .before .before .before .before .args .state .now)) (c .before .before .before .before .before .before .refusal .ensures .holds (c .before .before .before .before .before .if1 .left)) (c .before .before .before .before .before .before .before .before .before .args .address) (sym (c .before .before .before .shut-by .ensures) ∙ c .before .before .if2 .left) (c .before .if3 .taken)) (c .answer3 .ensures)
+returns-3 c = called-stopped _ _ (c .before .before .before .before .before .before .before .before .before .args .state .now) _ (base-over (c .before .before .before .before .before .before .before .before .before .args .state .now) (decode (c .before .before .before .before .before .before .before .before .before .args .state .now)) (c .before .before .before .before .before .before .refusal .ensures .holds (c .before .before .before .before .before .if1 .left)) (c .before .before .before .before .before .before .before .before .before .args .address) (sym (c .before .before .before .shut-by .ensures) ∙ c .before .before .if2 .left) (c .before .if3 .taken)) (c .answer3 .ensures)
 
 set-next-requires : tie.Need-set-next-requires
 set-next-requires c κs = ((c .before .before .before .before .before .before .refusal .ensures .good (c .before .before .before .before .before .if1 .left)), omega arith)
@@ -58,7 +59,7 @@ same-length-4 : tie.Need-same-length-4
 same-length-4 c = search needs
 
 returns-4 : tie.Need-returns-4
-returns-4 c = called-done _ _ (c .before .before .before .before .before .before .before .before .before .before .before .before .before .args .state .now) _ _ (base-done (c .before .before .before .before .before .before .before .before .before .before .before .before .before .args .state .now) (decode (c .before .before .before .before .before .before .before .before .before .before .before .before .before .args .state .now)) (c .before .before .before .before .before .before .before .before .before .before .refusal .ensures .holds (c .before .before .before .before .before .before .before .before .before .if1 .left)) (c .before .before .before .before .before .before .before .before .before .before .before .before .before .args .address) (sym (c .before .before .before .before .before .before .before .shut-by .ensures) ∙ c .before .before .before .before .before .before .if2 .left) (c .before .before .before .before .before .if3 .left)) (c .before .before .before .set-next .ensures) (c .answer4 .ensures)
+returns-4 c = called-done _ _ _ (c .before .before .before .before .before .before .before .before .before .before .before .before .before .args .state .now) _ _ (base-done (c .before .before .before .before .before .before .before .before .before .before .before .before .before .args .state .now) (decode (c .before .before .before .before .before .before .before .before .before .before .before .before .before .args .state .now)) (c .before .before .before .before .before .before .before .before .before .before .refusal .ensures .holds (c .before .before .before .before .before .before .before .before .before .if1 .left)) (c .before .before .before .before .before .before .before .before .before .before .before .before .before .args .address) (sym (c .before .before .before .before .before .before .before .shut-by .ensures) ∙ c .before .before .before .before .before .before .if2 .left) (c .before .before .before .before .before .if3 .left)) (c .before .before .before .set-next .ensures) (c .answer4 .ensures)
 
 pub base-spec : {M : Type 1} → statement M
 base-spec =

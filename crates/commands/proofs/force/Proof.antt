@@ -3,7 +3,8 @@ use Rattle.rules.specs.Placing.{mention}
 use Rattle.rules.specs.Calls.{force, stopped}
 use Rattle.state.specs.Layout.{decode}
 use Rattle.text.specs.Answers.{nameIn}
-use Rattle.commands.proofs.CommandLaws.{called-stopped, called-joined, called-kept, force-shut, force-illegal, force-done, force-full}
+use Rattle.state.proofs.PromiseLaws.{called-stopped}
+use Rattle.commands.proofs.CommandLaws.{called-joined, called-kept, force-shut, force-illegal, force-done, force-full}
 use Rattle.soundness.proofs.RefusalLaws.{refused}
 use borrow.Author.Needs.{needs}
 use Rattle.commands.proofs.force.Statement.{statement}
@@ -27,7 +28,7 @@ same-length c = search needs
 
 returns : tie.Need-returns
 unfolding force
-returns c = called-stopped _ (c .before .before .refusal .result) (c .before .before .before .before .before .before .args .state .now) _ (refused (λ l. force l (c .before .before .before .before .before .before .args .name .now)) stopped refl refl (c .before .before .before .before .before .before .args .state .now) (c .before .before .refusal .result) (c .before .before .refusal .ensures) (c .before .if1 .taken)) (c .answer .ensures)
+returns c = called-stopped _ _ (c .before .before .before .before .before .before .args .state .now) _ (refused (λ l. force l (c .before .before .before .before .before .before .args .name .now)) stopped refl refl (c .before .before .before .before .before .before .args .state .now) (c .before .before .refusal .result) (c .before .before .refusal .ensures) (c .before .if1 .taken)) (c .answer .ensures)
 
 shut-by-requires : tie.Need-shut-by-requires
 shut-by-requires c κs = (c .before .before .refusal .ensures .good (c .before .if1 .left))
@@ -39,7 +40,7 @@ same-length-2 : tie.Need-same-length-2
 same-length-2 c = search needs
 
 returns-2 : tie.Need-returns-2
-returns-2 c = called-stopped _ (c .before .before .shut-by .result) (c .before .before .before .before .before .before .before .before .before .args .state .now) _ (force-shut (c .before .before .before .before .before .before .before .before .before .args .state .now) (decode (c .before .before .before .before .before .before .before .before .before .args .state .now)) (c .before .before .before .before .before .refusal .ensures .holds (c .before .before .before .before .if1 .left)) (c .before .before .before .before .before .before .before .before .before .args .name .now) (c .before .before .shut-by .result) (c .before .before .shut-by .ensures) (c .before .if2 .taken)) (c .answer2 .ensures)
+returns-2 c = called-stopped _ _ (c .before .before .before .before .before .before .before .before .before .args .state .now) _ (force-shut (c .before .before .before .before .before .before .before .before .before .args .state .now) (decode (c .before .before .before .before .before .before .before .before .before .args .state .now)) (c .before .before .before .before .before .refusal .ensures .holds (c .before .before .before .before .if1 .left)) (c .before .before .before .before .before .before .before .before .before .args .name .now) (c .before .before .shut-by .result) (c .before .before .shut-by .ensures) (c .before .if2 .taken)) (c .answer2 .ensures)
 
 read-name-requires : tie.Need-read-name-requires
 read-name-requires c κs = search needs
@@ -57,7 +58,7 @@ same-length-3 : tie.Need-same-length-3
 same-length-3 c = search needs
 
 returns-3 : tie.Need-returns-3
-returns-3 c = called-stopped _ 15 (c .before .before .before .before .before .before .before .before .before .before .before .before .args .state .now) _ (force-illegal (c .before .before .before .before .before .before .before .before .before .before .before .before .args .state .now) (decode (c .before .before .before .before .before .before .before .before .before .before .before .before .args .state .now)) (c .before .before .before .before .before .before .before .before .refusal .ensures .holds (c .before .before .before .before .before .before .before .if1 .left)) (c .before .before .before .before .before .before .before .before .before .before .before .before .args .name .now) (sym (c .before .before .before .before .before .shut-by .ensures) ∙ c .before .before .before .before .if2 .left) (ap nameIn (sym (c .before .enum-told .given .1)) ∙ c .before .before .before .read-name .ensures)) (c .answer3 .ensures)
+returns-3 c = called-stopped _ _ (c .before .before .before .before .before .before .before .before .before .before .before .before .args .state .now) _ (force-illegal (c .before .before .before .before .before .before .before .before .before .before .before .before .args .state .now) (decode (c .before .before .before .before .before .before .before .before .before .before .before .before .args .state .now)) (c .before .before .before .before .before .before .before .before .refusal .ensures .holds (c .before .before .before .before .before .before .before .if1 .left)) (c .before .before .before .before .before .before .before .before .before .before .before .before .args .name .now) (sym (c .before .before .before .before .before .shut-by .ensures) ∙ c .before .before .before .before .if2 .left) (ap nameIn (sym (c .before .enum-told .given .1)) ∙ c .before .before .before .read-name .ensures)) (c .answer3 .ensures)
 
 mention-requires : tie.Need-mention-requires
 mention-requires c κs = (c .before .before .before .before .before .before .before .before .before .refusal .ensures .good (c .before .before .before .before .before .before .before .before .if1 .left))

@@ -1,5 +1,6 @@
 use Rattle.rules.specs.State.{fresh}
-use Rattle.commands.proofs.CommandLaws.{called-stopped, called-done, reset-short, reset-done}
+use Rattle.state.proofs.PromiseLaws.{called-stopped, called-done}
+use Rattle.commands.proofs.CommandLaws.{reset-short, reset-done}
 use borrow.Author.Needs.{needs}
 use Rattle.commands.proofs.reset.Statement.{statement}
 use Rattle.commands.proofs.reset.Tie as tie
@@ -12,7 +13,7 @@ answer-requires : tie.Need-answer-requires
 answer-requires c κs = search needs
 
 returns : tie.Need-returns
-returns c = called-stopped _ 1 (c .before .before .before .args .state .now) _ (reset-short (c .before .before .before .args .state .now) (c .before .if1 .taken)) (c .answer .ensures)
+returns c = called-stopped _ _ (c .before .before .before .args .state .now) _ (reset-short (c .before .before .before .args .state .now) (c .before .if1 .taken)) (c .answer .ensures)
 
 reset-requires : tie.Need-reset-requires
 reset-requires c κs = search needs
@@ -24,7 +25,7 @@ same-length : tie.Need-same-length
 same-length c = search needs
 
 returns-2 : tie.Need-returns-2
-returns-2 c = called-done _ fresh (c .before .before .before .before .before .before .before .args .state .now) _ _ (reset-done (c .before .before .before .before .before .before .before .args .state .now) (c .before .before .before .before .before .if1 .left)) (c .before .before .before .reset .ensures) (c .answer2 .ensures)
+returns-2 c = called-done _ _ fresh (c .before .before .before .before .before .before .before .args .state .now) _ _ (reset-done (c .before .before .before .before .before .before .before .args .state .now) (c .before .before .before .before .before .if1 .left)) (c .before .before .before .reset .ensures) (c .answer2 .ensures)
 
 pub reset-spec : {M : Type 1} → statement M
 reset-spec =

@@ -3,7 +3,8 @@ use mathlib.Core.Path.{refl}
 use Rattle.rules.specs.Calls.{loadLent, loadStopped}
 use Rattle.state.specs.Layout.{decode}
 use Rattle.soundness.proofs.RefusalLaws.{refused}
-use Rattle.loading.proofs.LoadingLaws.{load-stopped, load-shut, load-long, load-done}
+use Rattle.state.proofs.PromiseLaws.{called-stopped}
+use Rattle.loading.proofs.LoadingLaws.{load-shut, load-long, load-done}
 use borrow.Author.Needs.{needs}
 use Rattle.loading.proofs.load_tested.Statement.{statement}
 use Rattle.loading.proofs.load_tested.Tie as tie
@@ -25,7 +26,7 @@ same-length c = search needs
 
 returns : tie.Need-returns
 unfolding loadLent
-returns c = load-stopped _ (c .before .before .refusal .result) (c .before .before .before .before .before .before .before .args .state .now) _ (refused (λ l. loadLent l (c .before .before .before .before .before .before .before .args .file .now)) loadStopped refl refl (c .before .before .before .before .before .before .before .args .state .now) (c .before .before .refusal .result) (c .before .before .refusal .ensures) (c .before .if1 .taken)) (c .answer .ensures)
+returns c = called-stopped _ _ (c .before .before .before .before .before .before .before .args .state .now) _ (refused (λ l. loadLent l (c .before .before .before .before .before .before .before .args .file .now)) loadStopped refl refl (c .before .before .before .before .before .before .before .args .state .now) (c .before .before .refusal .result) (c .before .before .refusal .ensures) (c .before .if1 .taken)) (c .answer .ensures)
 
 shut-by-requires : tie.Need-shut-by-requires
 shut-by-requires c κs = c .before .before .refusal .ensures .good (c .before .if1 .left)
@@ -37,7 +38,7 @@ same-length-2 : tie.Need-same-length-2
 same-length-2 c = search needs
 
 returns-2 : tie.Need-returns-2
-returns-2 c = load-stopped _ (c .before .before .shut-by .result) (c .before .before .before .before .before .before .before .before .before .before .args .state .now) _ (load-shut (c .before .before .before .before .before .before .before .before .before .before .args .state .now) (decode (c .before .before .before .before .before .before .before .before .before .before .args .state .now)) (c .before .before .before .before .before .refusal .ensures .holds (c .before .before .before .before .if1 .left)) (c .before .before .before .before .before .before .before .before .before .before .args .file .now) (c .before .before .shut-by .result) (c .before .before .shut-by .ensures) (c .before .if2 .taken)) (c .answer2 .ensures)
+returns-2 c = called-stopped _ _ (c .before .before .before .before .before .before .before .before .before .before .args .state .now) _ (load-shut (c .before .before .before .before .before .before .before .before .before .before .args .state .now) (decode (c .before .before .before .before .before .before .before .before .before .before .args .state .now)) (c .before .before .before .before .before .refusal .ensures .holds (c .before .before .before .before .if1 .left)) (c .before .before .before .before .before .before .before .before .before .before .args .file .now) (c .before .before .shut-by .result) (c .before .before .shut-by .ensures) (c .before .if2 .taken)) (c .answer2 .ensures)
 
 answer-requires-3 : tie.Need-answer-requires-3
 answer-requires-3 c κs = search needs
@@ -46,7 +47,7 @@ same-length-3 : tie.Need-same-length-3
 same-length-3 c = search needs
 
 returns-3 : tie.Need-returns-3
-returns-3 c = load-stopped _ 5 (c .before .before .before .before .before .before .before .before .before .before .before .args .state .now) _ (load-long (c .before .before .before .before .before .before .before .before .before .before .before .args .state .now) (decode (c .before .before .before .before .before .before .before .before .before .before .before .args .state .now)) (c .before .before .before .before .before .before .refusal .ensures .holds (c .before .before .before .before .before .if1 .left)) (c .before .before .before .before .before .before .before .before .before .before .before .args .file .now) (c .before .before .before .shut-by .result) (c .before .before .before .shut-by .ensures) (c .before .before .if2 .left) (c .before .if3 .taken)) (c .answer3 .ensures)
+returns-3 c = called-stopped _ _ (c .before .before .before .before .before .before .before .before .before .before .before .args .state .now) _ (load-long (c .before .before .before .before .before .before .before .before .before .before .before .args .state .now) (decode (c .before .before .before .before .before .before .before .before .before .before .before .args .state .now)) (c .before .before .before .before .before .before .refusal .ensures .holds (c .before .before .before .before .before .if1 .left)) (c .before .before .before .before .before .before .before .before .before .before .before .args .file .now) (c .before .before .before .shut-by .result) (c .before .before .before .shut-by .ensures) (c .before .before .if2 .left) (c .before .if3 .taken)) (c .answer3 .ensures)
 
 load-file-requires : tie.Need-load-file-requires
 load-file-requires c κs = (c .before .before .before .before .before .before .before .refusal .ensures .good (c .before .before .before .before .before .before .if1 .left), (c .before .before .before .before .before .before .before .before .before .before .before .before .pre, omega (arith, c .before .before .if3 .left)))
