@@ -11,9 +11,12 @@ use input::is_end;
 use input::new_reader;
 use input::read_line;
 use input::text_of;
+use linker::STATE_CELLS;
+use linker::WORK_CELLS;
 use obey::obey;
 use obey::obey_with;
 use page::say;
+use rules::limits::LONGEST_FILE;
 
 fn capital(byte: u8) -> u8 {
     if byte >= 97 {
@@ -121,14 +124,19 @@ fn talk(state: &mut [u64], work: &mut [u64], room: &mut [u8], keys: &mut [u8], l
     }
 }
 
-// The memory that the calls are lent: 8,708 cells of state and 65,536 of work. room has one byte more than a file may have, and
-// line holds the longest path with a CR.
+// One byte more than a file may have, so that a longer one is told.
+const ROOM: usize = LONGEST_FILE + 1;
+
+// The longest path and a CR.
+const LONGEST_COMMAND: usize = 4096;
+
+// The whole dialogue, in memory of its own.
 pub fn run() {
-    let mut state_cells = [0u64; 8708];
-    let mut work_cells = [0u64; 65536];
-    let mut room_bytes = [0u8; 65537];
+    let mut state_cells = [0u64; STATE_CELLS];
+    let mut work_cells = [0u64; WORK_CELLS];
+    let mut room_bytes = [0u8; ROOM];
     let mut keys_bytes = [0u8; 4096];
-    let mut line_bytes = [0u8; 4096];
+    let mut line_bytes = [0u8; LONGEST_COMMAND];
     let state: &mut [u64] = &mut state_cells;
     let work: &mut [u64] = &mut work_cells;
     let room: &mut [u8] = &mut room_bytes;
@@ -138,4 +146,16 @@ pub fn run() {
     say(b"LNK100 REL. 1.00\n*\n");
     talk(state, work, room, keys, line);
     say(b"END LNK100\n");
+}
+
+// The program: the dialogue, if it was started without arguments. It takes none, so with any it only says how it is used.
+pub fn start() {
+    if 1 < os::arg_count() {
+        io::write_all(
+            libc::STDERR_FILENO,
+            b"usage: lnk100 < COMMANDS: it takes no arguments, but a command (L F B R M S U E X) or operand on each line\n",
+        );
+        return;
+    }
+    run();
 }

@@ -5,9 +5,9 @@ use crate::page::put_name;
 use crate::page::put_number;
 use crate::page::put_text;
 use crate::page::say;
+use rules::limits::MOST_SYMBOLS;
 
-// Document 01: at most 256 symbols.
-const SYMBOLS: u64 = 256;
+const SYMBOLS: u64 = MOST_SYMBOLS as u64;
 
 // Name, gap, number and line end.
 fn put_row(page: &mut [u8], at: usize, name: u64, gap: &[u8], number: u64, close: &[u8]) -> usize {

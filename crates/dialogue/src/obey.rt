@@ -11,6 +11,7 @@ use crate::page::put_high;
 use crate::page::say;
 use crate::refusals::refused;
 use crate::refusals::tell;
+use rules::answer::DONE;
 use text::numbers::Number;
 use text::numbers::read_number;
 
@@ -21,7 +22,7 @@ fn load_file(state: &mut [u64], work: &mut [u64], room: &mut [u8], path: &[u8]) 
         return;
     }
     let a = linker::lnk100_load(state, work, front(room, r.length));
-    if a.number != 0 {
+    if a.number != DONE {
         refused(room, a.number, a.line);
         return;
     }
@@ -52,7 +53,7 @@ fn reset(state: &mut [u64], room: &mut [u8]) {
 
 fn memory(state: &[u64], room: &mut [u8]) {
     let a = linker::lnk100_memory(state);
-    if a.number != 0 {
+    if a.number != DONE {
         refused(room, a.number, a.line);
         return;
     }
@@ -62,7 +63,7 @@ fn memory(state: &[u64], room: &mut [u8]) {
 
 fn symbols(state: &[u64], room: &mut [u8], path: &[u8]) {
     let a = linker::lnk100_memory(state);
-    if a.number != 0 {
+    if a.number != DONE {
         refused(room, a.number, a.line);
         return;
     }
@@ -72,7 +73,7 @@ fn symbols(state: &[u64], room: &mut [u8], path: &[u8]) {
 
 fn undefined(state: &[u64], room: &mut [u8], path: &[u8]) {
     let a = linker::lnk100_undefined(state, 0);
-    if a.number != 0 {
+    if a.number != DONE {
         refused(room, a.number, a.line);
         return;
     }
@@ -83,7 +84,7 @@ fn undefined(state: &[u64], room: &mut [u8], path: &[u8]) {
 // A refused END leaves the file alone. END can be asked again where the file could not be written.
 fn end(state: &mut [u64], room: &mut [u8], path: &[u8]) {
     let a = linker::lnk100_end(state, room);
-    if a.number != 0 {
+    if a.number != DONE {
         refused(room, a.number, a.line);
         return;
     }

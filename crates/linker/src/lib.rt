@@ -5,6 +5,8 @@ use rules::answer::LoadAnswer;
 use rules::answer::MemoryAnswer;
 use rules::answer::SymbolAnswer;
 use rules::answer::UndefinedAnswer;
+use state::layout::SIZE;
+use tables::cells::PART_ROOM;
 ghost use mathlib.Core.Path.{_≡_};
 ghost use lib.ListN.{length};
 ghost use lib.Dec.{eqb};
@@ -13,7 +15,11 @@ ghost use Rattle.state.specs.Layout.{lent};
 ghost use Rattle.state.specs.Promise.{Called, Ended};
 ghost use Rattle.loading.specs.Work.{workSize};
 
-// Work memory has 65,536 cells.
+// The fixed lengths of state and work memory.
+pub const STATE_CELLS: usize = SIZE;
+
+pub const WORK_CELLS: usize = PART_ROOM;
+
 #[no_mangle]
 pub extern "C" fn lnk100_load(state: &mut [u64], work: &mut [u64], file: &[u8]) -> LoadAnswer
     ensures { λ r. ⌜ Called (load (lent (now (state .entry))) (eqb (length (now (work .entry))) workSize) (now (file .entry))) (now (state .entry)) r (now (state .exit)) × (now (work .exit) ≡ workAfter workSize (now (work .entry))) ⌝ }

@@ -55,7 +55,7 @@ pub fn row_start(rows: &[u64], i: usize) -> usize
 }
 
 // Where they end.
-fn row_end(rows: &[u64], i: usize) -> usize
+pub fn row_end(rows: &[u64], i: usize) -> usize
     requires { ⌜ i ≤ 131072 ⌝ }
     ensures { λ r. ⌜ (r ≡ endIn (now (rows .entry)) i) × (r < 2 ^ 48) ⌝ }
 {

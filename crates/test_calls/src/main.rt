@@ -2,6 +2,7 @@
 // A line of answers: the number, the line, and what else the call gives, in the order of its struct; then, of a call that may
 // change something, what became of the lent cells. What is printed is held to the file stdout beside src/.
 use libc::STDOUT_FILENO;
+use linker::STATE_CELLS;
 use linker::lnk100_base;
 use linker::lnk100_end;
 use linker::lnk100_force;
@@ -71,9 +72,9 @@ fn written(out: &[u8; 64]) {
 
 // ---- what a call leaves
 
-fn same(a: &[u64; 8708], b: &[u64; 8708]) -> bool {
+fn same(a: &[u64; STATE_CELLS], b: &[u64; STATE_CELLS]) -> bool {
     let mut i = 0;
-    while i < 8708 {
+    while i < STATE_CELLS {
         if a[i] != b[i] {
             return false;
         }
@@ -93,7 +94,7 @@ fn all_are(cells: &[u64; 8709], cell: u64) -> bool {
     true
 }
 
-fn compare(before: &[u64; 8708], after: &[u64; 8708]) {
+fn compare(before: &[u64; STATE_CELLS], after: &[u64; STATE_CELLS]) {
     if same(before, after) {
         word(b" same");
         return;
@@ -103,8 +104,8 @@ fn compare(before: &[u64; 8708], after: &[u64; 8708]) {
 
 // ---- a call, and its whole answer
 
-fn reset(state: &mut [u64; 8708]) {
-    let fresh = [0u64; 8708];
+fn reset(state: &mut [u64; STATE_CELLS]) {
+    let fresh = [0u64; STATE_CELLS];
     let a = lnk100_reset(state);
     word(b"RESET");
     number(a.number);
@@ -115,7 +116,7 @@ fn reset(state: &mut [u64; 8708]) {
     end_line();
 }
 
-fn force(state: &mut [u64; 8708], name: &[u8]) {
+fn force(state: &mut [u64; STATE_CELLS], name: &[u8]) {
     let before = *state;
     let a = lnk100_force(state, name);
     word(b"FORCE ");
@@ -127,7 +128,7 @@ fn force(state: &mut [u64; 8708], name: &[u8]) {
     end_line();
 }
 
-fn base(state: &mut [u64; 8708], address: u64) {
+fn base(state: &mut [u64; STATE_CELLS], address: u64) {
     let before = *state;
     let a = lnk100_base(state, address);
     word(b"BASE");
@@ -139,7 +140,7 @@ fn base(state: &mut [u64; 8708], address: u64) {
     end_line();
 }
 
-fn memory(state: &[u64; 8708]) {
+fn memory(state: &[u64; STATE_CELLS]) {
     let m = lnk100_memory(state);
     word(b"MEMORY");
     number(m.number);
@@ -148,7 +149,7 @@ fn memory(state: &[u64; 8708]) {
     end_line();
 }
 
-fn symbol(state: &[u64; 8708], index: u64) {
+fn symbol(state: &[u64; STATE_CELLS], index: u64) {
     let s = lnk100_symbols(state, index);
     word(b"SYMBOLS");
     number(index);
@@ -162,7 +163,7 @@ fn symbol(state: &[u64; 8708], index: u64) {
     end_line();
 }
 
-fn undefined(state: &[u64; 8708], index: u64) {
+fn undefined(state: &[u64; STATE_CELLS], index: u64) {
     let s = lnk100_undefined(state, index);
     word(b"UNDEFINED");
     number(index);
@@ -177,7 +178,7 @@ fn undefined(state: &[u64; 8708], index: u64) {
     end_line();
 }
 
-fn end_in_front(state: &mut [u64; 8708], out: &mut [u8], room: usize) -> EndAnswer {
+fn end_in_front(state: &mut [u64; STATE_CELLS], out: &mut [u8], room: usize) -> EndAnswer {
     if out.len() < room {
         return lnk100_end(state, out);
     }
@@ -185,7 +186,7 @@ fn end_in_front(state: &mut [u64; 8708], out: &mut [u8], room: usize) -> EndAnsw
 }
 
 // Into the first bytes of an output of 64 that is all 7.
-fn end(state: &mut [u64; 8708], room: usize) {
+fn end(state: &mut [u64; STATE_CELLS], room: usize) {
     let before = *state;
     let mut out = [7u8; 64];
     let a = end_in_front(state, &mut out, room);
@@ -214,7 +215,7 @@ fn call(which: u64, state: &mut [u64], out: &mut [u8]) -> u64 {
     }
 }
 
-fn attempt(which: u64, state: &mut [u64; 8708]) {
+fn attempt(which: u64, state: &mut [u64; STATE_CELLS]) {
     let before = *state;
     let mut out = [7u8; 64];
     number(call(which, state, &mut out));
@@ -226,7 +227,7 @@ fn attempt(which: u64, state: &mut [u64; 8708]) {
     }
 }
 
-fn all_calls(state: &mut [u64; 8708]) {
+fn all_calls(state: &mut [u64; STATE_CELLS]) {
     word(b"FORCE, BASE, MEMORY, SYMBOLS, UNDEFINED, END:");
     attempt(0, state);
     attempt(1, state);
@@ -239,36 +240,36 @@ fn all_calls(state: &mut [u64; 8708]) {
 
 // ---- states
 
-fn set(state: &mut [u64; 8708], at: usize, value: u64) {
-    if at < 8708 {
+fn set(state: &mut [u64; STATE_CELLS], at: usize, value: u64) {
+    if at < STATE_CELLS {
         state[at] = value;
     }
 }
 
-fn define(state: &mut [u64; 8708], symbol: usize, value: u64) {
+fn define(state: &mut [u64; STATE_CELLS], symbol: usize, value: u64) {
     if symbol < 256 {
         set(state, 260 + symbol, value);
     }
 }
 
 // tag: 1 a plain word, 2 + i one that refers to symbol i.
-fn place(state: &mut [u64; 8708], address: usize, text: u64, tag: u64) {
+fn place(state: &mut [u64; STATE_CELLS], address: usize, text: u64, tag: u64) {
     if address < 4096 {
         set(state, 516 + address, text);
         set(state, 4612 + address, tag);
     }
 }
 
-fn enter(state: &mut [u64; 8708], name: &[u8]) {
+fn enter(state: &mut [u64; STATE_CELLS], name: &[u8]) {
     lnk100_force(state, name);
 }
 
-fn make_fresh(state: &mut [u64; 8708]) {
+fn make_fresh(state: &mut [u64; STATE_CELLS]) {
     lnk100_reset(state);
 }
 
 // MAIN is 3, SQ and LOW are undefined; a plain word, one that refers to MAIN, two that refer to SQ.
-fn prepare(state: &mut [u64; 8708]) {
+fn prepare(state: &mut [u64; STATE_CELLS]) {
     make_fresh(state);
     enter(state, b"MAIN");
     enter(state, b"SQ");
@@ -282,12 +283,12 @@ fn prepare(state: &mut [u64; 8708]) {
 }
 
 // The n-th of 256 names.
-fn enter_nth(state: &mut [u64; 8708], n: u8) {
+fn enter_nth(state: &mut [u64; STATE_CELLS], n: u8) {
     enter(state, &[b'A', b'A' + n / 16, b'A' + n % 16]);
 }
 
 // 256 names, APP the first, AAA the last.
-fn fill(state: &mut [u64; 8708]) {
+fn fill(state: &mut [u64; STATE_CELLS]) {
     let mut n: u8 = 255;
     while 0 < n {
         enter_nth(state, n);
@@ -298,7 +299,7 @@ fn fill(state: &mut [u64; 8708]) {
 
 // ---- the runs
 
-fn fresh_state(state: &mut [u64; 8708]) {
+fn fresh_state(state: &mut [u64; STATE_CELLS]) {
     title(b"a fresh state");
     reset(state);
     memory(state);
@@ -314,7 +315,7 @@ fn fresh_state(state: &mut [u64; 8708]) {
     reset(state);
 }
 
-fn names(state: &mut [u64; 8708]) {
+fn names(state: &mut [u64; STATE_CELLS]) {
     title(b"names");
     force(state, b"");
     force(state, b"SEVENCH");
@@ -334,7 +335,7 @@ fn names(state: &mut [u64; 8708]) {
     undefined(state, 3);
 }
 
-fn bases(state: &mut [u64; 8708]) {
+fn bases(state: &mut [u64; STATE_CELLS]) {
     title(b"bases");
     base(state, 4095);
     memory(state);
@@ -349,7 +350,7 @@ fn bases(state: &mut [u64; 8708]) {
     end(state, 5);
 }
 
-fn full_table(state: &mut [u64; 8708]) {
+fn full_table(state: &mut [u64; STATE_CELLS]) {
     title(b"a full table");
     make_fresh(state);
     fill(state);
@@ -365,7 +366,7 @@ fn full_table(state: &mut [u64; 8708]) {
     end(state, 5);
 }
 
-fn prepared(state: &mut [u64; 8708]) {
+fn prepared(state: &mut [u64; STATE_CELLS]) {
     title(b"words and references");
     prepare(state);
     memory(state);
@@ -398,7 +399,7 @@ fn prepared(state: &mut [u64; 8708]) {
     end(state, 60);
 }
 
-fn broken(state: &mut [u64; 8708]) {
+fn broken(state: &mut [u64; STATE_CELLS]) {
     title(b"broken");
     prepare(state);
     set(state, 2, 1);
@@ -419,7 +420,7 @@ fn broken(state: &mut [u64; 8708]) {
 }
 
 // The largest next address, value and text, at the last address.
-fn limits(state: &mut [u64; 8708]) {
+fn limits(state: &mut [u64; STATE_CELLS]) {
     title(b"limits");
     make_fresh(state);
     enter(state, b"A");
@@ -432,7 +433,7 @@ fn limits(state: &mut [u64; 8708]) {
     end(state, 16);
 }
 
-fn never_reset(state: &mut [u64; 8708]) {
+fn never_reset(state: &mut [u64; STATE_CELLS]) {
     title(b"never reset");
     force(state, b"NEW");
     force(state, b"?");
@@ -448,7 +449,7 @@ fn never_reset(state: &mut [u64; 8708]) {
 
 // A sound state with one cell changed: every call on it, then RESET.
 fn damaged(label: &[u8], at: usize, value: u64) {
-    let mut state = [0u64; 8708];
+    let mut state = [0u64; STATE_CELLS];
     prepare(&mut state);
     set(&mut state, at, value);
     title(label);
@@ -531,7 +532,7 @@ fn lengths() {
 }
 
 fn main() {
-    let mut state = [99u64; 8708];
+    let mut state = [99u64; STATE_CELLS];
     never_reset(&mut state);
     fresh_state(&mut state);
     names(&mut state);

@@ -3,13 +3,14 @@ use crate::cells::tell_state;
 use crate::print::answer;
 use crate::print::number;
 use crate::print::say;
+use linker::STATE_CELLS;
 use linker::lnk100_base;
 use linker::lnk100_end;
 use linker::lnk100_force;
 use linker::lnk100_reset;
 use test_script::number_of;
 
-pub fn reset(state: &mut [u64; 8708]) {
+pub fn reset(state: &mut [u64; STATE_CELLS]) {
     let before = *state;
     let a = lnk100_reset(state);
     answer(b"RESET", a.number, a.line);
@@ -17,12 +18,12 @@ pub fn reset(state: &mut [u64; 8708]) {
 }
 
 // The title of a run, which starts from a fresh state.
-pub fn start(title: &[u8], state: &mut [u64; 8708]) {
+pub fn start(title: &[u8], state: &mut [u64; STATE_CELLS]) {
     say(title);
     lnk100_reset(state);
 }
 
-pub fn base(state: &mut [u64; 8708], digits: &[u8]) {
+pub fn base(state: &mut [u64; STATE_CELLS], digits: &[u8]) {
     let before = *state;
     let a = lnk100_base(state, number_of(digits));
     say(b"BASE ");
@@ -30,7 +31,7 @@ pub fn base(state: &mut [u64; 8708], digits: &[u8]) {
     tell_state(&before, state);
 }
 
-pub fn force(state: &mut [u64; 8708], name: &[u8]) {
+pub fn force(state: &mut [u64; STATE_CELLS], name: &[u8]) {
     let before = *state;
     let a = lnk100_force(state, name);
     say(b"FORCE ");
@@ -38,7 +39,7 @@ pub fn force(state: &mut [u64; 8708], name: &[u8]) {
     tell_state(&before, state);
 }
 
-pub fn end(state: &mut [u64; 8708]) {
+pub fn end(state: &mut [u64; STATE_CELLS]) {
     let before = *state;
     let mut out = [0u8; 512];
     let a = lnk100_end(state, &mut out);
@@ -49,11 +50,11 @@ pub fn end(state: &mut [u64; 8708]) {
 }
 
 // The n-th of 256 names, QAA to QPP.
-fn force_nth(state: &mut [u64; 8708], n: u8) {
+fn force_nth(state: &mut [u64; STATE_CELLS], n: u8) {
     lnk100_force(state, &[b'Q', b'A' + n / 16, b'A' + n % 16]);
 }
 
-fn force_all(state: &mut [u64; 8708], count: u8) {
+fn force_all(state: &mut [u64; STATE_CELLS], count: u8) {
     let mut n = count;
     while 0 < n {
         n -= 1;
@@ -62,7 +63,7 @@ fn force_all(state: &mut [u64; 8708], count: u8) {
 }
 
 // FORCE of so many names, at most 255.
-pub fn force_names(state: &mut [u64; 8708], digits: &[u8]) {
+pub fn force_names(state: &mut [u64; STATE_CELLS], digits: &[u8]) {
     let before = *state;
     force_all(state, (number_of(digits) % 256) as u8);
     say(b"FORCE of names, ");

@@ -1,10 +1,11 @@
 // What a call left of the cells that it was lent.
+use linker::STATE_CELLS;
 use crate::print::number;
 use crate::print::say;
 
-fn same(a: &[u64; 8708], b: &[u64; 8708]) -> bool {
+fn same(a: &[u64; STATE_CELLS], b: &[u64; STATE_CELLS]) -> bool {
     let mut i = 0;
-    while i < 8708 {
+    while i < STATE_CELLS {
         if a[i] != b[i] {
             return false;
         }
@@ -14,14 +15,14 @@ fn same(a: &[u64; 8708], b: &[u64; 8708]) -> bool {
 }
 
 // Cell 2 of a state is its mark: 0 none, 1 broken, 2 frozen.
-fn same_but_mark(before: &[u64; 8708], after: &[u64; 8708]) -> bool {
+fn same_but_mark(before: &[u64; STATE_CELLS], after: &[u64; STATE_CELLS]) -> bool {
     let mut unmarked = *after;
     unmarked[2] = before[2];
     same(before, &unmarked)
 }
 
 // The end of a call's line.
-pub fn tell_state(before: &[u64; 8708], after: &[u64; 8708]) {
+pub fn tell_state(before: &[u64; STATE_CELLS], after: &[u64; STATE_CELLS]) {
     if same(before, after) {
         say(b"; state same\n");
         return;

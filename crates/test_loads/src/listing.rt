@@ -3,6 +3,7 @@ use crate::print::byte;
 use crate::print::name;
 use crate::print::number;
 use crate::print::say;
+use linker::STATE_CELLS;
 use linker::lnk100_end;
 use linker::lnk100_memory;
 use linker::lnk100_symbols;
@@ -21,7 +22,7 @@ fn tell_symbol(packed: u64, value: u64, defined: u64) {
     say(b" undefined\n");
 }
 
-fn tell_symbols(state: &[u64; 8708]) {
+fn tell_symbols(state: &[u64; STATE_CELLS]) {
     let mut index: u64 = 0;
     while index < 256 {
         let s = lnk100_symbols(state, index);
@@ -41,7 +42,7 @@ fn tell_reference(packed: u64, highest: u64) {
     say(b"\n");
 }
 
-fn tell_undefined(state: &[u64; 8708]) {
+fn tell_undefined(state: &[u64; STATE_CELLS]) {
     let mut index: u64 = 0;
     while index < 256 {
         let u = lnk100_undefined(state, index);
@@ -53,7 +54,7 @@ fn tell_undefined(state: &[u64; 8708]) {
     }
 }
 
-fn tell_high(state: &[u64; 8708]) {
+fn tell_high(state: &[u64; STATE_CELLS]) {
     let m = lnk100_memory(state);
     say(b"  HIGH ");
     number(m.high);
@@ -86,12 +87,12 @@ fn tell_bytes(out: &[u8; 512], length: u64) {
 }
 
 // An array that is lent as a slice has its length, also where it is a copy.
-fn end(state: &mut [u64; 8708], out: &mut [u8; 512]) -> EndAnswer {
+fn end(state: &mut [u64; STATE_CELLS], out: &mut [u8; 512]) -> EndAnswer {
     lnk100_end(state, out)
 }
 
 // END is done on a copy, so that the run can go on.
-fn tell_image(state: &[u64; 8708]) {
+fn tell_image(state: &[u64; STATE_CELLS]) {
     let mut copy = *state;
     let mut out = [0u8; 512];
     let e = end(&mut copy, &mut out);
@@ -105,12 +106,12 @@ fn tell_image(state: &[u64; 8708]) {
     say(b"\n");
 }
 
-pub fn list_memory(state: &[u64; 8708]) {
+pub fn list_memory(state: &[u64; STATE_CELLS]) {
     tell_high(state);
     tell_image(state);
 }
 
-pub fn list(state: &[u64; 8708]) {
+pub fn list(state: &[u64; STATE_CELLS]) {
     tell_symbols(state);
     tell_undefined(state);
     list_memory(state);

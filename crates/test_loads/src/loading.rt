@@ -5,6 +5,7 @@ use crate::cells::tell_work;
 use crate::print::answer;
 use crate::print::number;
 use crate::print::say;
+use linker::STATE_CELLS;
 use linker::lnk100_load;
 use rules::answer::LoadAnswer;
 use test_script::between;
@@ -32,7 +33,7 @@ fn tell_answer(number_of_answer: u64, line: u64, rounds: u64) {
 }
 
 // LOAD with the first `size` of cells that are all 5 as work memory.
-pub fn load(state: &mut [u64; 8708], size: usize, file: &[u8]) {
+pub fn load(state: &mut [u64; STATE_CELLS], size: usize, file: &[u8]) {
     let before = *state;
     let mut work = [5u64; 65537];
     let a = lend_work(state, &mut work, size, file);
@@ -42,7 +43,7 @@ pub fn load(state: &mut [u64; 8708], size: usize, file: &[u8]) {
 }
 
 // LOAD of so many line ends.
-pub fn load_blank(state: &mut [u64; 8708], count: usize) {
+pub fn load_blank(state: &mut [u64; STATE_CELLS], count: usize) {
     let blank = [10u8; 65537];
     load(state, 65536, between(&blank, 0, count));
 }

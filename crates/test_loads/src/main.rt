@@ -21,13 +21,14 @@ mod loading;
 mod obey;
 mod print;
 
+use linker::STATE_CELLS;
 use obey::play_line;
 use test_script::between;
 
 // The turns bound the loop; a script has fewer lines.
 fn play(script: &[u8]) {
-    let mut state = [0u64; 8708];
-    let mut kept = [0u64; 8708];
+    let mut state = [0u64; STATE_CELLS];
+    let mut kept = [0u64; STATE_CELLS];
     let mut at: usize = 0;
     let mut turns: u64 = 65536;
     while turns > 0 {

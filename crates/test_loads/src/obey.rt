@@ -1,4 +1,5 @@
 // A line of a run: which call it is, and on what.
+use linker::STATE_CELLS;
 use crate::calls::base;
 use crate::calls::end;
 use crate::calls::force;
@@ -18,18 +19,18 @@ use test_script::next_line;
 use test_script::number_of;
 use test_script::operand;
 
-fn keep(state: &[u64; 8708], kept: &mut [u64; 8708]) {
+fn keep(state: &[u64; STATE_CELLS], kept: &mut [u64; STATE_CELLS]) {
     *kept = *state;
 }
 
-fn damage(state: &mut [u64; 8708], at: u64) {
-    if at < 8708 {
+fn damage(state: &mut [u64; STATE_CELLS], at: u64) {
+    if at < STATE_CELLS {
         state[at as usize] = 7;
     }
 }
 
 // A line that no file stands under.
-fn obey(line: &[u8], state: &mut [u64; 8708], kept: &mut [u64; 8708]) {
+fn obey(line: &[u8], state: &mut [u64; STATE_CELLS], kept: &mut [u64; STATE_CELLS]) {
     match byte(line, 0) {
         b'-' => start(line, state),
         b':' => say(line),
@@ -51,7 +52,7 @@ fn obey(line: &[u8], state: &mut [u64; 8708], kept: &mut [u64; 8708]) {
 }
 
 // Work memory of the length that is asked for, or of the right one.
-fn load_lines(digits: &[u8], state: &mut [u64; 8708], file: &[u8]) {
+fn load_lines(digits: &[u8], state: &mut [u64; STATE_CELLS], file: &[u8]) {
     if digits.len() == 0 {
         load(state, 65536, file);
         return;
@@ -60,7 +61,7 @@ fn load_lines(digits: &[u8], state: &mut [u64; 8708], file: &[u8]) {
 }
 
 // The file under a line L or C. Answers where the line behind the file's stop starts.
-fn play_file(script: &[u8], line: &[u8], next: usize, state: &mut [u64; 8708]) -> usize {
+fn play_file(script: &[u8], line: &[u8], next: usize, state: &mut [u64; STATE_CELLS]) -> usize {
     let stop = file_end(script, next);
     let file = between(script, next, stop);
     if byte(line, 0) == b'C' {
@@ -83,8 +84,8 @@ fn has_file(letter: u8) -> bool {
 pub fn play_line(
     script: &[u8],
     at: usize,
-    state: &mut [u64; 8708],
-    kept: &mut [u64; 8708],
+    state: &mut [u64; STATE_CELLS],
+    kept: &mut [u64; STATE_CELLS],
 ) -> usize {
     let next = next_line(script, at);
     let line = between(script, at, next);

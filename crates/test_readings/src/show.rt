@@ -5,8 +5,19 @@ use rules::line::Entry;
 use rules::line::Relocation;
 use rules::reading::Part;
 use rules::reading::Reading;
-use tables::cell;
-use tables::part_of;
+use rules::limits::LONGEST_FILE;
+use tables::cells::PART_ROOM;
+use tables::cells::ROW_ROOM;
+use tables::cells::body_at;
+use tables::cells::head_at;
+use tables::parts::part_of;
+use tables::rows::FREE;
+use tables::rows::MEMBER;
+use tables::rows::SECTION;
+use tables::rows::row_end;
+use tables::rows::row_kind;
+use tables::rows::row_line;
+use tables::rows::row_start;
 ghost use Prim.Native.Nat.{_<_, _≤_};
 ghost use lib.ListN.{length};
 
@@ -139,23 +150,26 @@ fn show_parts(cells: &[u64], n: usize)
 {
     let mut i: usize = 0;
     while i < n {
-        show_part(part_of(cell(cells, 2 * i), cell(cells, 2 * i + 1)));
+        show_part(part_of(head_at(cells, i), body_at(cells, i)));
         i += 1;
     }
 }
 
-fn show_row(head: u64, body: u64) {
-    match head % 4 {
-        1 => say(b"  module, line "),
-        2 => say(b"  library module, line "),
-        3 => say(b"  section, line "),
+fn show_row(rows: &[u64], i: usize)
+    requires { ⌜ i ≤ 8 ⌝ }
+{
+    let kind = row_kind(rows, i);
+    match kind {
+        FREE => say(b"  module, line "),
+        MEMBER => say(b"  library module, line "),
+        SECTION => say(b"  section, line "),
         _ => say(b"  no row, line "),
     }
-    decimal(head / 4);
+    decimal(row_line(rows, i));
     say(b", from ");
-    decimal(body % 65536);
+    decimal(row_start(rows, i) as u64);
     say(b" to ");
-    decimal(body / 65536);
+    decimal(row_end(rows, i) as u64);
     say(b"\n");
 }
 
@@ -165,7 +179,7 @@ fn show_rows(cells: &[u64], n: usize)
 {
     let mut i: usize = 0;
     while i < n {
-        show_row(cell(cells, 2 * i), cell(cells, 2 * i + 1));
+        show_row(cells, i);
         i += 1;
     }
 }
@@ -186,7 +200,7 @@ fn show_reading(reading: Reading) {
             number,
             line,
             column,
-        } => show_stop(number as u64, line as u64, column as u64),
+        } => show_stop(number, line as u64, column as u64),
     }
 }
 
@@ -199,8 +213,8 @@ fn show_counts(parts: usize, rows: usize) {
 }
 
 // Reads the file into these tables and prints what it came to.
-fn show_read(file: &[u8], parts: &mut [u64; 65536], rows: &mut [u64; 32768])
-    requires { ⌜ length (now file) ≤ 65536 ⌝ }
+fn show_read(file: &[u8], parts: &mut [u64; PART_ROOM], rows: &mut [u64; ROW_ROOM])
+    requires { ⌜ length (now file) ≤ longestFile ⌝ }
 {
     let r = read_file(file, parts, rows);
     let reading = r.reading;
@@ -213,9 +227,9 @@ fn show_read(file: &[u8], parts: &mut [u64; 65536], rows: &mut [u64; 32768])
 // One case: its label, then what its file came to.
 pub fn show(label: &[u8], file: &[u8]) {
     say(label);
-    let mut parts = [0u64; 65536];
-    let mut rows = [0u64; 32768];
-    if file.len() <= 65536 {
+    let mut parts = [0u64; PART_ROOM];
+    let mut rows = [0u64; ROW_ROOM];
+    if file.len() <= LONGEST_FILE {
         show_read(file, &mut parts, &mut rows);
     }
 }
