@@ -1,7 +1,8 @@
 #!/usr/bin/env bash
 # Holds docs/PROMISES.md to the repository: each name under Definition and Proof stands in the file that it names, each edit has
-# its file and each edit's file a row, each function under Code is in its crate, and no column is empty. Where the papers are at
-# hand, each of their sentences has a row. Seconds.
+# its file and each edit's file a row, each function under Code is in its crate, and no column is empty. And to the papers: each
+# of their sentences has a row by its place, each place in a row is a sentence's, and each heading has its section's range. Where
+# the papers are not at hand, the ranges in the headings stand for them. Seconds.
 #
 #   scripts/promises.sh [PAPERS]    the folder of 00-demands.md and 01-scope.md; ../shared if none is named
 set -u
@@ -14,9 +15,15 @@ lacks() {
   lacking=$((lacking + 1))
 }
 
-# What the rows cite, a line for each: kind, line of the row, crate, file, name.
+# What the rows cite, a line for each: kind, line of the row, crate, file, name. A place has its paper, section and number there.
 cited() {
   awk '
+    # "01 lines 14, 15"
+    function places(text,    n, i, words) {
+      n = split(text, words, /,? /)
+      for (i = 3; i <= n; i++) print "place", NR, words[1], words[2], words[i]
+      if (n < 3) print "place", NR, text
+    }
     # "File `a`, `b`; crate: File `c`", or for functions "crate `a`, `b`; crate `c`"
     function names(kind, text,    word, crate, file) {
       crate = "rules"; file = "-"
@@ -39,16 +46,17 @@ cited() {
         if (k < 2) print "edit", NR, "-", "-", crates[i]
       }
     }
-    !/^\|/ || /^\|---/ || /^\| Sentence \|/ { next }
+    !/^\|/ || /^\|---/ || /^\| Place \|/ { next }
     {
       n = split($0, cell, / *\| */)
       for (i = 2; i < n; i++) if (cell[i] == "") print "empty", NR, "-", "-", i - 1
-      if (n == 4) next
-      if (n != 7) { print "columns", NR, "-", "-", n - 2; next }
-      names("definition", cell[3])
-      if (cell[4] != "contract") names("definition", cell[4])
-      if (cell[5] !~ /^none: ./) edits(cell[5])
-      if (cell[6] !~ /^none: ./) names("function", cell[6])
+      if (n != 5 && n != 8) { print "columns", NR, "-", "-", n - 2; next }
+      places(cell[2])
+      if (n == 5) next
+      names("definition", cell[4])
+      if (cell[5] != "contract") names("definition", cell[5])
+      if (cell[6] !~ /^none: ./) edits(cell[6])
+      if (cell[7] !~ /^none: ./) names("function", cell[7])
     }' "$doc"
 }
 
@@ -61,17 +69,46 @@ defined() { # CRATE FILE NAME
   grep -qsE "(struct|enum|fn) $3\b" "crates/$1/src/$2.rt"
 }
 
-# The sentences of a paper, a line for each, the cells of its tables apart. P3's image, in a fence, is left out: Runs computes it.
-sentences() { # PAPER
-  awk '
+# The places of a paper's sentences, a line for each: paper, section, number. A sentence ends at ". ", at ".) " and at the end of a
+# line; the "1. " of a list ends none, and a row of a table is one. P3's image, in a fence, is left out: Runs computes it.
+sentences() { # PAPER FILE OPENS WORDS: OPENS matches the lines that open a section, WORDS names the sections in order
+  awk -v paper="$1" -v opens="$3" -v words="$4" '
+    BEGIN { split(words, word) }
     /^```/ { fenced = !fenced; next }
-    fenced || /^#/ || /^\|---/ || /^\| (Header|No\.) \|/ { next }
+    fenced || /^$/ || /^\|---/ || /^\| (Header|No\.) \|/ { next }
+    $0 ~ opens { section = word[++opened] }
+    /^#/ { next }
     {
-      gsub(/`/, ""); sub(/^- /, ""); sub(/^[0-9]\. /, "")
-      gsub(/[.] /, ".\n"); gsub(/[.][)] /, ".)\n"); gsub(/ *\| */, "\n")
-      print
-    }' "$1"
+      sub(/^[0-9]\. /, "")
+      n = /^\|/ ? 1 : 1 + gsub(/[.][)]? /, "&")
+      for (i = 1; i <= n; i++) print paper, section, ++count[section]
+    }' "$2"
 }
+
+# The same of both papers. 00 has no headings, so each of its paragraphs opens a section, and the first two are one.
+in_papers() {
+  sentences 00 "$papers/00-demands.md" '^[^#]' 'aim aim demand1 demand2 demand3 later gate'
+  sentences 01 "$papers/01-scope.md" '^## ' 'edges bounds lines placing searching answers image runs slips promises forms'
+}
+
+# The same by the headings of the document: '## Document 01, "The lines": lines 1 to 27'.
+in_headings() {
+  sed -nE 's/^## Document (0[01]), .*: ([a-z0-9]+) 1 to ([0-9]+)$/\1 \2 \3/p' "$doc" |
+    while read -r paper section last; do seq -f "$paper $section %g" "$last"; done
+}
+
+if [ -f "$papers/00-demands.md" ] && [ -f "$papers/01-scope.md" ]; then
+  places=$(in_papers)
+  while read -r side place; do
+    case $side in
+    '<') lacks "no heading's range has $place, which the papers have" ;;
+    '>') lacks "a heading's range has $place, which the papers do not have" ;;
+    esac
+  done < <(diff <(echo "$places") <(in_headings))
+else
+  places=$(in_headings)
+  echo "$doc: no papers in $papers, so the places were looked for in the headings' ranges"
+fi
 
 rows=$(cited)
 while read -r kind line crate file name; do
@@ -79,6 +116,7 @@ while read -r kind line crate file name; do
   definition) defined "$crate" "$file" "$name" || lacks "line $line: crate $crate, file $file has no $name" ;;
   function) grep -qsE "fn ${name}[(<]" crates/"$crate"/src/*.rt || lacks "line $line: crate $crate has no function $name" ;;
   edit) [ -f "crates/$crate/must-fail/$name.edit" ] || [ -f "must-fail-slow/$crate/$name.edit" ] || lacks "line $line: crate $crate has no edit $name" ;;
+  place) grep -qxF -- "$crate $file $name" <<<"$places" || lacks "line $line: there is no place $crate $file $name" ;;
   empty) lacks "line $line: column $name is empty" ;;
   *) lacks "line $line has $name columns" ;;
   esac
@@ -90,13 +128,9 @@ for edit in crates/*/must-fail/*.edit must-fail-slow/*/*.edit; do
   grep -q "^edit [0-9]* $crate - $(basename "$edit" .edit)\$" <<<"$rows" || lacks "no row has $edit"
 done
 
-if [ -f "$papers/00-demands.md" ] && [ -f "$papers/01-scope.md" ]; then
-  told=$(awk -F ' *[|] *' '/^\|/ { gsub(/`/, ""); print $2 }' "$doc")
-  while IFS= read -r sentence; do
-    case $told in *"$sentence"*) ;; *) lacks "no row has: $sentence" ;; esac
-  done < <(sentences "$papers/00-demands.md" && sentences "$papers/01-scope.md")
-else
-  echo "$doc: no papers in $papers, so their sentences were not looked for"
-fi
+while read -r place; do
+  lacks "no row has $place"
+done < <(grep -vxFf <(sed -n 's/^place [0-9]* //p' <<<"$rows") <<<"$places")
 
-[ "$lacking" -eq 0 ] && echo "$doc: all $(wc -l <<<"$rows") names are there"
+[ "$lacking" -eq 0 ] &&
+  echo "$doc: all $(grep -vc '^place ' <<<"$rows") names are there, and all $(wc -l <<<"$places") sentences have a row"

@@ -1,4 +1,4 @@
--- Bytes written at a place of the output, one piece behind the other.
+-- Bytes written at a position of the output, one piece behind the other.
 use Prim.Native.Nat.{ℕ, suc, _+_, _-_, _*_, _/_, _%_, _≤_, _<_, min}
 use native.Mathlib.Omega.{arith}
 use native.Mathlib.Numerals.{add-one}
@@ -74,7 +74,7 @@ two-low n = ap₂ {A = ℕ} {B = ℕ} (λ x y. x ∷ y ∷ []) (omega arith) (om
 
 -- ---- bytes stored one by one
 
--- stores from place at + k on
+-- stores from position at + k on
 unfoldable pub puts : List ℕ → ℕ → ℕ → List ℕ → List ℕ
 puts out at k [] = out
 puts out at k (v ∷ vs) = puts (set out (at + k) v) at (k + 1) vs
@@ -94,7 +94,7 @@ puts-behind at (v ∷ vs) xs out k e h =
     ∙ puts-behind at vs (xs ++ (v ∷ [])) out (k + 1) (omega (arith, length-append xs (v ∷ []))) (omega (arith, length-append xs (v ∷ [])))
     ∙ ap (λ l. overlay at l out) (append-assoc xs (v ∷ []) vs)
 
--- a byte at a place and the others behind it
+-- a byte at a position and the others behind it
 pub puts-all : (at v : ℕ) (vs out : List ℕ) → at + suc (length vs) ≤ length out → puts (set out at v) at 1 vs ≡ overlay at (v ∷ vs) out
 puts-all at v vs out h =
     ap (λ l. puts l at 1 vs) (overlay-set at v out (omega arith)) ∙ puts-behind at vs (v ∷ []) out 1 refl (omega arith)

@@ -59,8 +59,8 @@ module _ (t : List Symbol) (a text tag : ℕ) where
   record-linked unplaced e x z o = absurd (z e)
   record-linked (plain y) e x z o = absurd (o e)
   record-linked (refers y i) e x z o =
-      let place : tag - 2 ≡ i = omega arith in
-      rw (place, x)
+      let position : tag - 2 ≡ i = omega arith in
+      rw (position, x)
 
 -- ---- an empty record, and one of eleven bytes
 

@@ -9,7 +9,7 @@ use Rattle.rules.specs.State.{State, unplaced}
 use lib.ListN.{getD}
 use Rattle.state.specs.Words.{Tagged}
 
--- the output with these bytes at a place, all else as it was
+-- the output with these bytes at a position, all else as it was
 unfoldable pub overlay : ℕ → List ℕ → List ℕ → List ℕ
 overlay at bytes out = take at out ++ (bytes ++ drop (at + length bytes) out)
 
@@ -25,7 +25,7 @@ recordAt s a = recordOf (s .symbols) a (getD (s .words) a unplaced)
 abbrev pub wordsOf : State → List ℕ
 wordsOf s = recordsFrom (s .symbols) 0 (s .words)
 
--- bytes were written at a place, and r is the place behind them
+-- bytes were written at a position, and r is the position behind them
 pub record Written (at : ℕ) (bytes before after : List ℕ) (r : ℕ) : Type 0 where
   pub out : after ≡ overlay at bytes before
   pub behind : r ≡ at + length bytes

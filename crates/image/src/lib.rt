@@ -92,7 +92,7 @@ fn linked_word(state: &[u64], address: usize, tag: u64) -> u64
     complete(t, value_of(state, (tag - 2) as usize))
 }
 
-// The record of an address, if a word is placed there; the answer is the place behind it.
+// The record of an address, if a word is placed there; the answer is the position behind it.
 fn put_record(state: &[u64], address: usize, out: &mut [u8], at: usize) -> usize
     requires { ⌜ Good (now state) ⌝ }
     requires { ⌜ (address < 4096) × (at + length (recordAt (decode (now state)) address) ≤ length (now out)) ⌝ }

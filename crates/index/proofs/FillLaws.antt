@@ -49,9 +49,9 @@ any-either p q (x ∷ xs) = ap (λ b. (p x || q x) || b) (any-either p q xs) ∙
 
 -- ---- one entry more
 
-module _ {parts : List ℕ} {place owner : ℕ} {before after : List ℕ} (a : Added parts place owner before after) where
+module _ {parts : List ℕ} {part owner : ℕ} {before after : List ℕ} (a : Added parts part owner before after) where
   abbrev z : ℕ
-  z = bodyIn parts place
+  z = bodyIn parts part
 
   abbrev n : ℕ
   n = countOf before
@@ -120,13 +120,13 @@ module _ {parts : List ℕ} {place owner : ℕ} {before after : List ℕ} (a : A
 
 -- ---- a part, if it is an entry
 
-module _ {parts : List ℕ} {place owner : ℕ} {before : List ℕ} where
-  pub part-other : Indexed parts before → isEntry (headIn parts place) ≡ false → PartAdded parts place owner before false before
+module _ {parts : List ℕ} {part owner : ℕ} {before : List ℕ} where
+  pub part-other : Indexed parts before → isEntry (headIn parts part) ≡ false → PartAdded parts part owner before false before
   part-other g e =
       record { long = g .long; other = λ _. (refl, refl); again = λ h. never h e; new = λ h. never h e }
 
-  pub part-new : isEntry (headIn parts place) ≡ true → {name k : ℕ} → name ≡ bodyIn parts place → Found parts before name k → k ≡ 0 →
-      {after : List ℕ} → Added parts place owner before after → PartAdded parts place owner before false after
+  pub part-new : isEntry (headIn parts part) ≡ true → {name k : ℕ} → name ≡ bodyIn parts part → Found parts before name k → k ≡ 0 →
+      {after : List ℕ} → Added parts part owner before after → PartAdded parts part owner before false after
   part-new e q f z a =
       record {
         long = a .indexed .long;
@@ -135,8 +135,8 @@ module _ {parts : List ℕ} {place owner : ℕ} {before : List ℕ} where
         new = λ _ _. (ap not (eq-eqb _ _ (sym (f .is ∙ ap (named parts before) q) ∙ z)), a);
       }
 
-  pub part-again : Indexed parts before → isEntry (headIn parts place) ≡ true → {name k : ℕ} → name ≡ bodyIn parts place →
-      Found parts before name k → k ≢ 0 → PartAdded parts place owner before true before
+  pub part-again : Indexed parts before → isEntry (headIn parts part) ≡ true → {name k : ℕ} → name ≡ bodyIn parts part →
+      Found parts before name k → k ≢ 0 → PartAdded parts part owner before true before
   part-again g e q f n =
       record {
         long = g .long;
@@ -201,24 +201,24 @@ module _ (parts rows : List ℕ) (first n m : ℕ) where
       inside : 1 < length cells - 2 * q
       inside = omega arith
 
-      abbrev place : ℕ
-      place = start + q
+      abbrev part : ℕ
+      part = start + q
 
-      head-is : getD cells (2 * q) 0 ≡ headIn parts place
+      head-is : getD cells (2 * q) 0 ≡ headIn parts part
       head-is =
-          let at : 2 * startIn rows (first + m) + 2 * q ≡ 2 * place = omega (arith, s) in
+          let at : 2 * startIn rows (first + m) + 2 * q ≡ 2 * part = omega (arith, s) in
           ap (λ c. getD c (2 * q) 0) lent
           ∙ lent-cell parts (2 * startIn rows (first + m)) (2 * endIn rows (first + m) - 2 * startIn rows (first + m)) (2 * q) (subst (λ c. 2 * q < length c) lent (omega arith))
           ∙ ap (λ i. getD parts i 0) at
 
-      body-is : getD cells (2 * q + 1) 0 ≡ bodyIn parts place
+      body-is : getD cells (2 * q + 1) 0 ≡ bodyIn parts part
       body-is =
-          let at : 2 * startIn rows (first + m) + (2 * q + 1) ≡ 2 * place + 1 = omega (arith, s) in
+          let at : 2 * startIn rows (first + m) + (2 * q + 1) ≡ 2 * part + 1 = omega (arith, s) in
           ap (λ c. getD c (2 * q + 1) 0) lent
           ∙ lent-cell parts (2 * startIn rows (first + m)) (2 * endIn rows (first + m) - 2 * startIn rows (first + m)) (2 * q + 1) (subst (λ c. 2 * q + 1 < length c) lent (omega arith))
           ∙ ap (λ i. getD parts i 0) at
 
-      pub place-small : length parts ≤ 131072 → place < 65536
+      pub place-small : length parts ≤ 131072 → part < 65536
       place-small h =
           let b : 2 * q + 1 < length (cellsIn parts (startIn rows (first + m)) (endIn rows (first + m))) =
           subst (λ c. 2 * q + 1 < length c) lent (omega arith) in
@@ -231,22 +231,22 @@ module _ (parts rows : List ℕ) (first n m : ℕ) where
           )
 
       -- the names from this part on, by what the part is
-      from-next : {b : Bool} → isEntry (headIn parts place) ≡ b → from q ≡ cond b (bodyIn parts place ∷ from (q + 1)) (from (q + 1))
+      from-next : {b : Bool} → isEntry (headIn parts part) ≡ b → from q ≡ cond b (bodyIn parts part ∷ from (q + 1)) (from (q + 1))
       from-next {b} e =
           let on : 2 * q + 2 ≡ 2 * (q + 1) = omega arith in
           names-next cells (2 * q) inside
           ∙ ap (λ h. cond (isEntry h) (getD cells (2 * q + 1) 0 ∷ namesIn (partsFrom cells (2 * q + 2))) (namesIn (partsFrom cells (2 * q + 2)))) head-is
           ∙ ap (λ t. cond t (getD cells (2 * q + 1) 0 ∷ namesIn (partsFrom cells (2 * q + 2))) (namesIn (partsFrom cells (2 * q + 2)))) e
           ∙ ap (λ x. cond b (x ∷ namesIn (partsFrom cells (2 * q + 2))) (namesIn (partsFrom cells (2 * q + 2)))) body-is
-          ∙ ap (λ i. cond b (bodyIn parts place ∷ namesIn (partsFrom cells i)) (namesIn (partsFrom cells i))) on
+          ∙ ap (λ i. cond b (bodyIn parts part ∷ namesIn (partsFrom cells i)) (namesIn (partsFrom cells i))) on
 
       -- an entry finds room
-      pub entry-fits : m < 256 → {index : List ℕ} → Adding q index → isEntry (headIn parts place) ≡ true → countOf index < 16384
+      pub entry-fits : m < 256 → {index : List ℕ} → Adding q index → isEntry (headIn parts part) ≡ true → countOf index < 16384
       entry-fits h a e = omega (arith, h, a .room, ap length (from-next e))
 
-      module _ {index after : List ℕ} {r : Bool} (a : Adding q index) (p : PartAdded parts place m index r after) where
+      module _ {index after : List ℕ} {r : Bool} (a : Adding q index) (p : PartAdded parts part m index r after) where
         -- another part changes nothing
-        next-other : isEntry (headIn parts place) ≡ false → Adding (q + 1) after
+        next-other : isEntry (headIn parts part) ≡ false → Adding (q + 1) after
         next-other e =
             let same : after ≡ index = p .other e .1 in
             let rest : from q ≡ from (q + 1) = from-next e in
@@ -267,11 +267,11 @@ module _ (parts rows : List ℕ) (first n m : ℕ) where
             move (inr o) rest = inr o
 
         -- an entry whose name is new
-        next-entry : isEntry (headIn parts place) ≡ true → r ≡ false → Adding (q + 1) after
+        next-entry : isEntry (headIn parts part) ≡ true → r ≡ false → Adding (q + 1) after
         unfolding any
         next-entry e f =
             let t = p .new e f in
-            let rest : from q ≡ bodyIn parts place ∷ from (q + 1) = from-next e in
+            let rest : from q ≡ bodyIn parts part ∷ from (q + 1) = from-next e in
             record {
               indexed = t .1 .indexed;
               room = omega (arith, a .room, ap length rest, t .1 .count);
@@ -283,41 +283,41 @@ module _ (parts rows : List ℕ) (first n m : ℕ) where
               here = λ y h. move y (a .here y h) rest (t .1) (t .0);
             }
           where
-            at : (y : ℕ) (b : Bool) → eqb y (bodyIn parts place) ≡ b → (b || any (eqb y) (from (q + 1))) ≡ true →
-                Added parts place m index after → (any (eqb y) (from (q + 1)) ≡ true) ⊎ Owner parts after y m
-            at y true s h t = inr (subst (λ v. Owner parts after v m) (sym (eqb-true y (bodyIn parts place) s)) (owner-new t))
+            at : (y : ℕ) (b : Bool) → eqb y (bodyIn parts part) ≡ b → (b || any (eqb y) (from (q + 1))) ≡ true →
+                Added parts part m index after → (any (eqb y) (from (q + 1)) ≡ true) ⊎ Owner parts after y m
+            at y true s h t = inr (subst (λ v. Owner parts after v m) (sym (eqb-true y (bodyIn parts part) s)) (owner-new t))
             at y false s h t = inl h
 
-            move : (y : ℕ) → (any (eqb y) (from q) ≡ true) ⊎ Owner parts index y m → from q ≡ bodyIn parts place ∷ from (q + 1) →
-                Added parts place m index after → holds parts index (bodyIn parts place) ≡ false →
+            move : (y : ℕ) → (any (eqb y) (from q) ≡ true) ⊎ Owner parts index y m → from q ≡ bodyIn parts part ∷ from (q + 1) →
+                Added parts part m index after → holds parts index (bodyIn parts part) ≡ false →
                 (any (eqb y) (from (q + 1)) ≡ true) ⊎ Owner parts after y m
             move y (inl h) rest t u =
-                at y (eqb y (bodyIn parts place)) refl (ap (any (eqb y)) (sym rest) ∙ h) t
+                at y (eqb y (bodyIn parts part)) refl (ap (any (eqb y)) (sym rest) ∙ h) t
             move y (inr o) rest t u = inr (owner-kept t u y m o)
 
         pub adding-next : r ≡ false → Adding (q + 1) after
-        adding-next f = go (isEntry (headIn parts place)) refl
+        adding-next f = go (isEntry (headIn parts part)) refl
           where
-            go : (b : Bool) → isEntry (headIn parts place) ≡ b → Adding (q + 1) after
+            go : (b : Bool) → isEntry (headIn parts part) ≡ b → Adding (q + 1) after
             go true e = next-entry e f
             go false e = next-other e
 
         -- a name that was there: it stands twice
         pub adding-again : r ≡ true → whole ≡ true
         unfolding any twice
-        adding-again f = go (isEntry (headIn parts place)) refl
+        adding-again f = go (isEntry (headIn parts part)) refl
           where
             last : (b c d : Bool) → (b || (true || c)) ≡ d → d ≡ true
             last true c d e = sym e
             last false c d e = sym e
 
-            go : (b : Bool) → isEntry (headIn parts place) ≡ b → whole ≡ true
+            go : (b : Bool) → isEntry (headIn parts part) ≡ b → whole ≡ true
             go true e =
                 last
-                (twice (bodyIn parts place ∷ from (q + 1) ++ behind))
+                (twice (bodyIn parts part ∷ from (q + 1) ++ behind))
                 (any (holds parts index) (from (q + 1) ++ behind))
                 whole
-                (ap (λ t. twice (bodyIn parts place ∷ from (q + 1) ++ behind) || (t || any (holds parts index) (from (q + 1) ++ behind))) (sym (p .again e f))
+                (ap (λ t. twice (bodyIn parts part ∷ from (q + 1) ++ behind) || (t || any (holds parts index) (from (q + 1) ++ behind))) (sym (p .again e f))
                 ∙ ap (λ l. clash parts index (l ++ behind)) (sym (from-next e))
                 ∙ a .comes)
             go false e = never f (p .other e .0)

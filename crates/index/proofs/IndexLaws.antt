@@ -119,16 +119,16 @@ cleared-indexed parts {index} c =
 
 -- ---- one entry more
 
-module _ (parts index : List ℕ) (g : Indexed parts index) (place owner at : ℕ) (room : countOf index < 16384)
-    (p : place < 65536) (m : owner < 256) (a : at ≡ 1 + slotOf (bodyIn parts place)) where
+module _ (parts index : List ℕ) (g : Indexed parts index) (part owner at : ℕ) (room : countOf index < 16384)
+    (p : part < 65536) (m : owner < 256) (a : at ≡ 1 + slotOf (bodyIn parts part)) where
   abbrev n : ℕ
   n = countOf index
 
   abbrev slot : ℕ
-  slot = slotOf (bodyIn parts place)
+  slot = slotOf (bodyIn parts part)
 
   abbrev entry : ℕ
-  entry = place + 65536 * getD index at 0 + 4294967296 * owner
+  entry = part + 65536 * getD index at 0 + 4294967296 * owner
 
   abbrev pub after : List ℕ
   after = set (set (set index (2049 + n) entry) at (n + 1)) 0 (n + 1)
@@ -177,9 +177,9 @@ module _ (parts index : List ℕ) (g : Indexed parts index) (place owner at : �
   name-other : (j : ℕ) → j < n → nameAt parts after j ≡ nameAt parts index j
   name-other j l = ap (λ v. bodyIn parts (v % 65536)) (entry-other j l)
 
-  name-same : nameAt parts after n ≡ bodyIn parts place
+  name-same : nameAt parts after n ≡ bodyIn parts part
   name-same =
-      let low : entry % 65536 ≡ place = omega (arith, p) in
+      let low : entry % 65536 ≡ part = omega (arith, p) in
       ap (λ v. bodyIn parts (v % 65536)) entry-same ∙ ap (bodyIn parts) low
 
   last-kept : (h j : ℕ) → j ≤ n → lastIn parts after h j ≡ lastIn parts index h j
@@ -221,7 +221,7 @@ module _ (parts index : List ℕ) (g : Indexed parts index) (place owner at : �
         ∙ sym (last-next (λ k. eqb (slotOf (nameAt parts after k)) h) n (ne-eqb _ _ (λ e. q (sym e ∙ ap slotOf name-same))))
   ]
 
-  pub entry-added : Added parts place owner index after
+  pub entry-added : Added parts part owner index after
   entry-added =
       record {
         indexed = record {

@@ -1,4 +1,4 @@
--- The last place that passes a test.
+-- The last part that passes a test.
 use Prim.Native.Nat.{ℕ, zero, suc, _+_, _-_, _<_, _≤_}
 use native.Mathlib.Omega.{arith}
 use mathlib.Core.Bool.{Bool, true, false, cond}
@@ -40,7 +40,7 @@ pub last-next : (p : ℕ → Bool) (j : ℕ) {b : Bool} → p j ≡ b → lastWh
 unfolding lastWhere
 last-next p j e = ap (λ b. cond b (suc j) (lastWhere p j)) e
 
--- a place that passes a finer test is not behind the last one of the coarser
+-- a part that passes a finer test is not behind the last one of the coarser
 pub last-finer : (fine coarse : ℕ → Bool) → ((k : ℕ) → fine k ≡ true → coarse k ≡ true) → (j : ℕ) →
     lastWhere fine j ≡ lastWhere fine (lastWhere coarse j)
 unfolding lastWhere

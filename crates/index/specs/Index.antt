@@ -42,7 +42,7 @@ ownerAt index j = entryAt index j / 4294967296
 
 -- ---- what makes it an index
 
--- the last place below j that passes the test, from 1; 0 where there is none
+-- the last part below j that passes the test, from 1; 0 where there is none
 unfoldable pub lastWhere : (ℕ → Bool) → ℕ → ℕ
 lastWhere p zero = 0
 lastWhere p (suc j) = cond (p j) (suc j) (lastWhere p j)
@@ -74,21 +74,21 @@ pub record Found (parts index : List ℕ) (y r : ℕ) : Type 0 where
 
 -- ---- one entry more
 
-pub record Added (parts : List ℕ) (place owner : ℕ) (before after : List ℕ) : Type 0 where
+pub record Added (parts : List ℕ) (part owner : ℕ) (before after : List ℕ) : Type 0 where
   pub indexed : Indexed parts after
   pub count : countOf after ≡ countOf before + 1
   pub names : (j : ℕ) → j < countOf before → nameAt parts after j ≡ nameAt parts before j
   pub owners : (j : ℕ) → j < countOf before → ownerAt after j ≡ ownerAt before j
-  pub name : nameAt parts after (countOf before) ≡ bodyIn parts place
+  pub name : nameAt parts after (countOf before) ≡ bodyIn parts part
   pub owned : ownerAt after (countOf before) ≡ owner
 
 -- a part, if it is an entry: r says that its name was there
-pub record PartAdded (parts : List ℕ) (place owner : ℕ) (before : List ℕ) (r : Bool) (after : List ℕ) : Type 0 where
+pub record PartAdded (parts : List ℕ) (part owner : ℕ) (before : List ℕ) (r : Bool) (after : List ℕ) : Type 0 where
   pub long : length after ≡ size
-  pub other : isEntry (headIn parts place) ≡ false → (r ≡ false) × (after ≡ before)
-  pub again : isEntry (headIn parts place) ≡ true → r ≡ true → holds parts before (bodyIn parts place) ≡ true
-  pub new : isEntry (headIn parts place) ≡ true → r ≡ false →
-      (holds parts before (bodyIn parts place) ≡ false) × Added parts place owner before after
+  pub other : isEntry (headIn parts part) ≡ false → (r ≡ false) × (after ≡ before)
+  pub again : isEntry (headIn parts part) ≡ true → r ≡ true → holds parts before (bodyIn parts part) ≡ true
+  pub new : isEntry (headIn parts part) ≡ true → r ≡ false →
+      (holds parts before (bodyIn parts part) ≡ false) × Added parts part owner before after
 
 -- ---- the modules of a section
 

@@ -52,32 +52,32 @@ pub fn owner(index: &[u64], k: usize) -> usize
 }
 
 // Adds the entry that is this part of a module.
-fn add(parts: &[u64], place: usize, owner: usize, index: &mut [u64])
-    requires { ⌜ (place < 65536) × (owner < 256) ⌝ }
+fn add(parts: &[u64], part: usize, owner: usize, index: &mut [u64])
+    requires { ⌜ (part < 65536) × (owner < 256) ⌝ }
     requires { ⌜ Indexed (now parts) (now index) × (countOf (now index) < 16384) ⌝ }
-    ensures { λ r. ⌜ Added (now (parts .entry)) place owner (now (index .entry)) (now (index .exit)) ⌝ }
+    ensures { λ r. ⌜ Added (now (parts .entry)) part owner (now (index .entry)) (now (index .exit)) ⌝ }
 {
     let n = index[0];
-    let at = 1 + slot(cell(parts, 2 * place + 1));
+    let at = 1 + slot(cell(parts, 2 * part + 1));
     let before = index[at];
-    index[ENTRIES + n as usize] = place as u64 + 65536 * before + OWNER * (owner as u64);
+    index[ENTRIES + n as usize] = part as u64 + 65536 * before + OWNER * (owner as u64);
     index[at] = n + 1;
     index[0] = n + 1;
 }
 
 // Adds a part of a module, if it is an entry. Was an entry of its name there?
-fn add_part(parts: &[u64], place: usize, owner: usize, index: &mut [u64]) -> bool
-    requires { ⌜ (place < 65536) × (owner < 256) ⌝ }
-    requires { ⌜ Indexed (now parts) (now index) × (isEntry (headIn (now parts) place) ≡ true → countOf (now index) < 16384) ⌝ }
-    ensures { λ r. ⌜ PartAdded (now (parts .entry)) place owner (now (index .entry)) r (now (index .exit)) ⌝ }
+fn add_part(parts: &[u64], part: usize, owner: usize, index: &mut [u64]) -> bool
+    requires { ⌜ (part < 65536) × (owner < 256) ⌝ }
+    requires { ⌜ Indexed (now parts) (now index) × (isEntry (headIn (now parts) part) ≡ true → countOf (now index) < 16384) ⌝ }
+    ensures { λ r. ⌜ PartAdded (now (parts .entry)) part owner (now (index .entry)) r (now (index .exit)) ⌝ }
 {
-    if !is_entry(cell(parts, 2 * place)) {
+    if !is_entry(cell(parts, 2 * part)) {
         return false;
     }
-    if find(parts, index, cell(parts, 2 * place + 1)) != 0 {
+    if find(parts, index, cell(parts, 2 * part + 1)) != 0 {
         return true;
     }
-    add(parts, place, owner, index);
+    add(parts, part, owner, index);
     false
 }
 

@@ -1,4 +1,4 @@
--- The whole line: its bytes, whether it has a field, and what is wanted of it.
+-- The whole line: its bytes, whether it has a field, and what is expected of it.
 -- Assumes nothing.
 use Prim.Native.Nat.{ℕ, _+_, _-_, _≤_, _<_}
 use native.Mathlib.Omega.{arith}
@@ -14,7 +14,7 @@ use Rattle.rules.specs.Text.{fieldsOf, legalFront}
 use Rattle.rules.specs.Line.{fault, fieldsSay, lineOf, faultWithin, testBytes, lineAnswer}
 use Rattle.rules.specs.declared.line.Fault.{Fault}
 use Rattle.rules.specs.declared.line.FaultKind.the-variants.{IllegalByte}
-use Rattle.rules.specs.declared.line.Wanted.{Wanted}
+use Rattle.rules.specs.declared.line.Expected.{Expected}
 use Rattle.rules.specs.declared.line.LineAnswer.{LineAnswer}
 use Rattle.rules.specs.declared.line.LineAnswer.the-variants.{Bad, Blank, Head, Opening, Closing, Code, Entered, Mentioned, Ignored, Parameter, Sub}
 use Rattle.text.specs.Scan.{part, InFile}
@@ -64,7 +64,7 @@ module _ (front size : ℕ) (a : LineAnswer) where
 
 -- ---- the whole line
 
-module _ (w : Wanted) {at stop : ℕ} {l : List ℕ} (h : InFile at stop l) where
+module _ (w : Expected) {at stop : ℕ} {l : List ℕ} (h : InFile at stop l) where
   abbrev Says : LineAnswer → Type 0
   Says a = a ≡ lineOf w (endColumn at stop) (lineFields at stop l)
 

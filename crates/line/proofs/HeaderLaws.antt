@@ -10,7 +10,7 @@ use lib.ListN.{length}
 use lib.Dec.{eqb, ltb}
 use borrow.Author.Tests.{ltb-true, ltb-false}
 use Rattle.rules.specs.Text.{Field, fieldsFrom, fieldsOf, numberOf}
-use Rattle.rules.specs.Line.{Row, headers, rowIn, rowOf, fault, fit, said, sayHeader, rowAt, firstText, headerLine}
+use Rattle.rules.specs.Line.{Row, headers, rowIn, rowOf, fault, fit, said, readAs, sayHeader, rowAt, firstText, headerLine}
 use Rattle.rules.specs.declared.line.FaultKind.the-variants.{BadMarker}
 use Rattle.rules.specs.declared.line.LineAnswer.{LineAnswer}
 use Rattle.rules.specs.declared.line.LineAnswer.the-variants.{Bad, Blank}
@@ -23,7 +23,7 @@ use Rattle.text.specs.declared.numbers.Number.the-variants.{Value, NotANumber}
 use Rattle.text.proofs.FieldLaws.{field, field-found, no-field}
 use Rattle.text.proofs.MarkerLaws.{no-block}
 use Rattle.line.specs.Fitting.{lineFields, endColumn}
-use Rattle.line.specs.Shapes.{headerShape, known, shapeOf, shapeLine}
+use Rattle.line.specs.Shapes.{rowShape, known, shapeOf, shapeLine}
 use Rattle.line.proofs.ShapeLaws.{tabulate, at-place, shape-header}
 
 -- ---- which codes are known
@@ -50,8 +50,8 @@ known-small k e = go (ltb k 12) refl
 
 -- a known code is read as its shape, and an unknown one is a fault
 as-shape : (end : ℕ) (f : Field) (fs : List Field) (o : Option Row) → known o ≡ true →
-    said (headerShape o .says) (fit end (headerShape o .kinds) (f ∷ fs)) ≡ sayHeader end (f ∷ fs) o
-unfolding known headerShape sayHeader
+    said (rowShape o .says) (fit end (rowShape o .kinds) (f ∷ fs)) ≡ sayHeader end (f ∷ fs) o
+unfolding known rowShape sayHeader readAs
 as-shape end f fs none e = never e refl
 as-shape end f fs (some r) e = refl
 
@@ -95,7 +95,7 @@ module _ {at stop s : ℕ} {l : List ℕ} (h : InFile at stop l) (e : s ≡ fiel
             p ∙ as-fault _ _ _ (rowOf c) (sym k ∙ n) ∙ (rw (sym a ∙ ap numberIn v) at line-is)
 
         pub header-known : x ≡ true → {o : LineAnswer} → o ≡ shapeLine c (endColumn at stop) (lineFields at stop l) → Says o
-        unfolding rowAt shapeLine
+        unfolding rowAt readAs
         header-known n p =
             p
             ∙ (rw (shape-header c (known-small c (sym k ∙ n)), fields-are) (as-shape _ _ _ (rowOf c) (sym k ∙ n)))

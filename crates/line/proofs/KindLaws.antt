@@ -9,7 +9,8 @@ use mathlib.Core.Path.{_≡_, refl, sym, ap, _∙_}
 use lib.Dec.{eqb}
 use borrow.Author.Tests.{ne-eqb}
 use Rattle.rules.specs.Text.{between, numberOf, nameOf}
-use Rattle.rules.specs.Line.{value, wrong, held, inBounds, readField, sameText, markerOf, isOne}
+use Rattle.rules.specs.Line.{value, wrong, held, inBounds, readField, markerOf, isOne}
+use Rattle.rules.specs.Text.{sameText}
 use Rattle.rules.specs.declared.line.FaultKind.{FaultKind}
 use Rattle.rules.specs.declared.line.FaultKind.the-variants.{BadMarker, BadNumber, BadName}
 use Rattle.rules.specs.declared.line.Kind.the-variants.{Number, Name, Marker}

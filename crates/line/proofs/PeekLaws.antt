@@ -10,7 +10,8 @@ use borrow.Author.Tests.{ne-eqb, ltb-true, ltb-false}
 use lib.Dec.{ltb}
 use denote.Ref.{RefT, now}
 use Rattle.rules.specs.Text.{Field, fieldsFrom, fieldsOf}
-use Rattle.rules.specs.Line.{sameText, firstText, starred, textAt}
+use Rattle.rules.specs.Line.{firstText, starred, textAt}
+use Rattle.rules.specs.Text.{sameText}
 use Rattle.text.specs.Scan.{part, InFile}
 use Rattle.text.specs.FieldBounds.{fieldStart, fieldStop, first, NextField}
 use Rattle.text.proofs.FieldLaws.{field, next-field, field-found, no-field, start-least, start-most, stop-most}

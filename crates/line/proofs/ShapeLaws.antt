@@ -10,7 +10,7 @@ use lib.ListN.{length, getD}
 use lib.Dec.{eqb, leb}
 use borrow.Author.Tests.{ne-eqb, lt-ltb, eqb-true, eqb-false, leb-true}
 use Rattle.rules.specs.Text.{bytes}
-use Rattle.rules.specs.Line.{nth, Row, headers, rowIn, rowOf, Fitted, fits, misfit, said}
+use Rattle.rules.specs.Line.{nth, Row, headers, rowIn, rowOf, Fitted, fits, misfit, shape, said, readAs, headerShape, recordShape}
 use Rattle.rules.specs.declared.line.Kind.{Kind}
 use Rattle.rules.specs.declared.line.LineAnswer.{LineAnswer}
 use Rattle.rules.specs.declared.line.LineAnswer.the-variants.{Bad}
@@ -18,7 +18,7 @@ use Rattle.rules.proofs.TestLaws.{and-left, and-right}
 use Rattle.text.specs.Scan.{part}
 use Rattle.text.proofs.ScanLaws.{length-part}
 use Rattle.line.specs.Fitting.{kindOf, valuesOf, asFitted, lineFields, endColumn, fitLine}
-use Rattle.line.specs.Shapes.{shape, headerShape, recordShapes, shapeOf, saidBy, shapeLine}
+use Rattle.line.specs.Shapes.{rowShape, records, shapeOf, saidBy, shapeLine}
 use Rattle.line.specs.declared.fitting.FieldsRead.{FieldsRead}
 
 -- ---- codes
@@ -35,7 +35,7 @@ no-row k a b d e f g h i j l m =
 
 -- ---- shapes
 
-pub shape-header : (s : ℕ) → s < 12 → shapeOf s ≡ headerShape (rowOf s)
+pub shape-header : (s : ℕ) → s < 12 → shapeOf s ≡ rowShape (rowOf s)
 unfolding shapeOf
 shape-header s h = simp (lt-ltb s 12 h)
 
@@ -84,7 +84,7 @@ abbrev coded : ℕ → Bool × List Kind
 coded s = codedAt (nth starts s) (nth starts (s + 1))
 
 table : tabulate coded 22 ≡ tabulate (λ s. (true, shapeOf s .kinds)) 22
-unfolding tabulate starts letters bytes part kindOf shapeOf recordShapes headerShape rowOf rowIn headers
+unfolding tabulate starts letters bytes part kindOf shapeOf records recordShape rowShape rowOf rowIn headers
 table = refl
 
 -- the kinds of shape s stand between a and e
@@ -129,5 +129,5 @@ module _ (s at stop : ℕ) (l : List ℕ) (r : FieldsRead) {a : LineAnswer} (ks 
   pub shape-says : asFitted (map kindOf ks) r ≡ fitLine (map kindOf ks) at stop l →
       ((names : List ℕ) → nth names 0 ≡ nth (r .names) 0 → a ≡ saidBy (shapeOf s) (r .numbers) names) →
       cond (r .fits) a (Bad (r .fault)) ≡ shapeLine s (endColumn at stop) (lineFields at stop l)
-  unfolding shapeLine saidBy fitLine
+  unfolding readAs saidBy fitLine
   shape-says e f = rw (f (r .names) refl) (says (shapeOf s .kinds) r (rw is at e) (shapeOf s .says))

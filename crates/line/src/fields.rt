@@ -1,4 +1,6 @@
 // A field against the kind that it has to be.
+use rules::limits::LARGEST_NUMBER;
+use rules::limits::MOST_SUB_RECORDS;
 use rules::line::FaultKind;
 use text::markers::is_marker;
 use text::names::Name;
@@ -9,6 +11,11 @@ ghost use mathlib.Core.Path.{_≡_};
 ghost use Rattle.rules.specs.declared.line.Kind.the-variants.{Number as NumberKind, Name as NameKind, Marker as MarkerKind};
 ghost use Rattle.rules.specs.Line.{readField};
 ghost use Rattle.line.specs.Fitting.{kindOf, asHeld};
+
+const ANY_NUMBER: u16 = LARGEST_NUMBER as u16;
+
+// The highest relocation type, and the only one that refers to an external.
+pub const EXTERNAL_TYPE: u16 = 5;
 
 // What a field holds: a number, a name, or neither. What it does not hold is 0.
 pub enum FieldRead {
@@ -58,12 +65,12 @@ pub fn read_field(field: &[u8], kind: u8) -> FieldRead
 {
     match kind {
         b'.' => FieldRead::Value { number: 0, name: 0 },
-        b'n' => number_field(field, 0, 0o177777, FaultKind::BadNumber),
+        b'n' => number_field(field, 0, ANY_NUMBER, FaultKind::BadNumber),
         b'x' => name_field(field),
         b'0' => number_field(field, 0, 0, FaultKind::BadType),
-        b'r' => number_field(field, 1, 5, FaultKind::BadType),
+        b'r' => number_field(field, 1, EXTERNAL_TYPE, FaultKind::BadType),
         b't' => number_field(field, 0, 1, FaultKind::BadType),
-        b's' => number_field(field, 0, 7, FaultKind::BadNumber),
+        b's' => number_field(field, 0, MOST_SUB_RECORDS, FaultKind::BadNumber),
         _ => marker_field(field, kind as u16 % 65),
     }
 }

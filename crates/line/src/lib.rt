@@ -1,4 +1,4 @@
-// What one line of an object file says, by what is wanted of it.
+// What one line of an object file says, by what is expected of it.
 use crate::fitting::bad;
 use crate::headers::header_line;
 use crate::records::code_line;
@@ -13,7 +13,7 @@ use crate::shapes::SUB;
 use crate::shapes::read_as;
 use rules::line::FaultKind;
 use rules::line::LineAnswer;
-use rules::line::Wanted;
+use rules::line::Expected;
 use text::fields::field_start;
 ghost use mathlib.Core.Path.{_≡_};
 ghost use Rattle.rules.specs.Text.{legalFront};
@@ -28,24 +28,24 @@ mod records;
 mod shapes;
 
 // What the fields of the line say. A line with no field is skipped.
-fn fields_say(file: &[u8], at: usize, stop: usize, wanted: Wanted) -> LineAnswer
+fn fields_say(file: &[u8], at: usize, stop: usize, expected: Expected) -> LineAnswer
     requires { ⌜ InFile at stop (now file) ⌝ }
-    ensures { λ r. ⌜ r ≡ lineOf wanted (endColumn at stop) (lineFields at stop (now (file .entry))) ⌝ }
+    ensures { λ r. ⌜ r ≡ lineOf expected (endColumn at stop) (lineFields at stop (now (file .entry))) ⌝ }
 {
     if field_start(file, at, stop) == stop {
         return LineAnswer::Blank;
     }
-    match wanted {
-        Wanted::AnyHeader => header_line(file, at, stop),
-        Wanted::OpeningTitle => read_as(file, at, stop, OPENING),
-        Wanted::ClosingTitle => read_as(file, at, stop, CLOSING),
-        Wanted::CodeRecord => code_line(file, at, stop),
-        Wanted::EntryRecord => entry_line(file, at, stop),
-        Wanted::ExternalRecord => read_as(file, at, stop, EXTERNAL),
-        Wanted::DataRecord => read_as(file, at, stop, DATA),
-        Wanted::InitRecord => read_as(file, at, stop, INIT),
-        Wanted::ParameterRecord => read_as(file, at, stop, PARAMETER),
-        Wanted::SubRecord => read_as(file, at, stop, SUB),
+    match expected {
+        Expected::AnyHeader => header_line(file, at, stop),
+        Expected::OpeningTitle => read_as(file, at, stop, OPENING),
+        Expected::ClosingTitle => read_as(file, at, stop, CLOSING),
+        Expected::CodeRecord => code_line(file, at, stop),
+        Expected::EntryRecord => entry_line(file, at, stop),
+        Expected::ExternalRecord => read_as(file, at, stop, EXTERNAL),
+        Expected::DataRecord => read_as(file, at, stop, DATA),
+        Expected::InitRecord => read_as(file, at, stop, INIT),
+        Expected::ParameterRecord => read_as(file, at, stop, PARAMETER),
+        Expected::SubRecord => read_as(file, at, stop, SUB),
     }
 }
 
@@ -67,12 +67,12 @@ fn test_bytes(front: usize, size: usize, answer: LineAnswer) -> LineAnswer
     }
 }
 
-// What the line from `at` to `stop` of the file says, given what is wanted of it; `front` of its bytes are legal before one is
+// What the line from `at` to `stop` of the file says, given what is expected of it; `front` of its bytes are legal before one is
 // not.
-pub fn line_answer(file: &[u8], at: usize, stop: usize, front: usize, wanted: Wanted) -> LineAnswer
+pub fn line_answer(file: &[u8], at: usize, stop: usize, front: usize, expected: Expected) -> LineAnswer
     requires { ⌜ InFile at stop (now file) ⌝ }
     requires { ⌜ front ≡ legalFront 80 (part at stop (now file)) ⌝ }
-    ensures { λ r. ⌜ r ≡ lineAnswer wanted (part at stop (now (file .entry))) ⌝ }
+    ensures { λ r. ⌜ r ≡ lineAnswer expected (part at stop (now (file .entry))) ⌝ }
 {
-    test_bytes(front, stop - at, fields_say(file, at, stop, wanted))
+    test_bytes(front, stop - at, fields_say(file, at, stop, expected))
 }

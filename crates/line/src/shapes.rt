@@ -1,4 +1,5 @@
 // The shapes of lines: which kinds their fields have to be, and what they say then.
+use crate::fields::EXTERNAL_TYPE;
 use crate::fitting::fit;
 use crate::fitting::said;
 use rules::line::CodeWord;
@@ -14,7 +15,7 @@ ghost use lib.ListN.{length};
 ghost use Rattle.rules.specs.Line.{nth, wordOf, relocationOf};
 ghost use Rattle.text.specs.Scan.{InFile};
 ghost use Rattle.line.specs.Fitting.{valuesOf, endColumn, lineFields};
-ghost use Rattle.line.specs.Shapes.{headerShape, shapeOf, shapeLine, saidBy};
+ghost use Rattle.line.specs.Shapes.{rowShape, shapeOf, shapeLine, saidBy};
 ghost use Rattle.rules.specs.declared.line.LineAnswer.the-variants.{Head, Entered};
 ghost use Rattle.rules.specs.Line.{rowOf, entry};
 
@@ -40,7 +41,7 @@ pub const PARAMETER: usize = 20;
 pub const SUB: usize = 21;
 
 fn header_of(code: usize, count: u16, offset: u16) -> Header
-    ensures { λ r. ⌜ ((numbers names : List ℕ) → nth numbers 1 ≡ count → nth numbers 2 ≡ offset → Head r ≡ saidBy (headerShape (rowOf code)) numbers names) ⌝ }
+    ensures { λ r. ⌜ ((numbers names : List ℕ) → nth numbers 1 ≡ count → nth numbers 2 ≡ offset → Head r ≡ saidBy (rowShape (rowOf code)) numbers names) ⌝ }
 {
     match code {
         0 => Header::CodeBlock { count, offset },
@@ -67,7 +68,7 @@ fn word(a: u16, b: u16, c: u16, d: u16) -> u64
 fn relocation_of(kind: u16, arg: u16) -> Relocation
     ensures { λ r. ⌜ r ≡ relocationOf kind arg ⌝ }
 {
-    if kind == 5 {
+    if kind == EXTERNAL_TYPE {
         return Relocation::External(arg);
     }
     Relocation::Unread(kind)

@@ -1,4 +1,4 @@
--- A symbol at an index of a listing, by its place in the table.
+-- A symbol at an index of a listing, by its position in the table.
 use Prim.Native.Nat.{ℕ, zero, suc, _+_, _-_, _≤_, _<_}
 use native.Mathlib.Omega.{arith}
 use native.Mathlib.Numerals.{add-one}
@@ -10,7 +10,7 @@ use lib.ListN.{length, getD}
 use lib.Dec.{eqb, leb, ltb}
 use borrow.Author.Tests.{eq-eqb, ne-eqb, eqb-false, lt-ltb, le-ltb, ltb-true, ltb-false}
 use Rattle.rules.specs.Text.{any}
-use Rattle.rules.specs.State.{Symbol, symbol, State, nameIs, isSymbol, placeOf, undefinedOnly, differentNames, highest, high}
+use Rattle.rules.specs.State.{Symbol, symbol, State, nameIs, isSymbol, positionOf, undefinedOnly, differentNames, highest, high}
 use Rattle.rules.specs.Calls.{Lent, wrongLength, damaged, holding, bit, memoryAnswer, memory, symbolNone, symbolIs, symbolAt, symbols, undefinedNone, undefinedIs, undefinedAt, undefined}
 use Rattle.rules.specs.declared.answer.MemoryAnswer.{MemoryAnswer}
 use Rattle.rules.specs.declared.answer.SymbolAnswer.{SymbolAnswer}
@@ -18,19 +18,19 @@ use Rattle.rules.specs.declared.answer.UndefinedAnswer.{UndefinedAnswer}
 use Rattle.rules.proofs.TestLaws.{none-first, none-rest}
 use Rattle.rules.proofs.TableLaws.{different-cons}
 use Rattle.state.specs.Layout.{lent}
-use Rattle.state.specs.Table.{noSymbol, listed, undefinedPlace}
+use Rattle.state.specs.Table.{noSymbol, listed, undefinedPosition}
 use Rattle.state.specs.declared.table.Listed.{Listed}
 
--- ---- places in the table
+-- ---- positions in the table
 
 none-at : (p : Symbol → Bool) (t : List Symbol) (i : ℕ) (d : Symbol) → any p t ≡ false → i < length t → p (getD t i d) ≡ false
 none-at p [] i d h l = absurd (omega arith)
 none-at p (s ∷ t) zero d h l = none-first p s t h
 none-at p (s ∷ t) (suc i) d h l = none-at p t i d (none-rest p s t h) (omega arith)
 
--- where names differ, a symbol's name leads to its place
-pub place-unique : (t : List Symbol) (i : ℕ) (d : Symbol) → differentNames t ≡ true → i < length t → placeOf (getD t i d .name) t ≡ i
-unfolding placeOf isSymbol
+-- where names differ, a symbol's name leads to its position
+pub place-unique : (t : List Symbol) (i : ℕ) (d : Symbol) → differentNames t ≡ true → i < length t → positionOf (getD t i d .name) t ≡ i
+unfolding positionOf isSymbol
 place-unique [] i d h l = absurd (omega arith)
 place-unique (s ∷ t) zero d h l = rw (eq-eqb (s .name) (s .name) refl)
 place-unique (s ∷ t) (suc i) d h l =
@@ -43,16 +43,16 @@ place-unique (s ∷ t) (suc i) d h l =
 -- ---- the undefined symbols
 
 module _ (s : Symbol) (t : List Symbol) where
-  place-defined : (k : ℕ) → s .defined ≡ true → undefinedPlace k (s ∷ t) ≡ undefinedPlace k t + 1
-  unfolding undefinedPlace
+  place-defined : (k : ℕ) → s .defined ≡ true → undefinedPosition k (s ∷ t) ≡ undefinedPosition k t + 1
+  unfolding undefinedPosition
   place-defined k e = let same : k - 0 ≡ k = omega arith in rw (e, same)
 
-  place-first : s .defined ≡ false → undefinedPlace 0 (s ∷ t) ≡ 0
-  unfolding undefinedPlace
+  place-first : s .defined ≡ false → undefinedPosition 0 (s ∷ t) ≡ 0
+  unfolding undefinedPosition
   place-first e = rw e
 
-  place-later : (k : ℕ) → s .defined ≡ false → undefinedPlace (suc k) (s ∷ t) ≡ undefinedPlace k t + 1
-  unfolding undefinedPlace
+  place-later : (k : ℕ) → s .defined ≡ false → undefinedPosition (suc k) (s ∷ t) ≡ undefinedPosition k t + 1
+  unfolding undefinedPosition
   place-later k e =
       let same : suc k - 1 ≡ k = omega arith in
       rw (e, ne-eqb (suc k) 0 (omega arith), same)
@@ -69,10 +69,10 @@ module _ (s : Symbol) (t : List Symbol) where
 behind : (s : Symbol) (t : List Symbol) (n : ℕ) → getD (s ∷ t) (n + 1) noSymbol ≡ getD t n noSymbol
 behind s t n = ap (λ k. getD (s ∷ t) k noSymbol) (add-one n)
 
--- the k-th undefined symbol, by its place and by the list of the undefined
+-- the k-th undefined symbol, by its position and by the list of the undefined
 pub record Undefined (t : List Symbol) (k : ℕ) : Type 0 where
-  pub inside : undefinedPlace k t < length t
-  pub is : getD t (undefinedPlace k t) noSymbol ≡ getD (undefinedOnly t) k noSymbol
+  pub inside : undefinedPosition k t < length t
+  pub is : getD t (undefinedPosition k t) noSymbol ≡ getD (undefinedOnly t) k noSymbol
 
 module _ (s : Symbol) (t : List Symbol) (k : ℕ) (u : Undefined t k) where
   undefined-past : s .defined ≡ true → Undefined (s ∷ t) k
@@ -81,7 +81,7 @@ module _ (s : Symbol) (t : List Symbol) (k : ℕ) (u : Undefined t k) where
         inside = omega (arith, place-defined s t k e, u .inside);
         is =
             ap (λ n. getD (s ∷ t) n noSymbol) (place-defined s t k e)
-            ∙ behind s t (undefinedPlace k t)
+            ∙ behind s t (undefinedPosition k t)
             ∙ u .is
             ∙ ap (λ l. getD l k noSymbol) (sym (only-defined s t e));
       }
@@ -92,7 +92,7 @@ module _ (s : Symbol) (t : List Symbol) (k : ℕ) (u : Undefined t k) where
         inside = omega (arith, place-later s t k e, u .inside);
         is =
             ap (λ n. getD (s ∷ t) n noSymbol) (place-later s t k e)
-            ∙ behind s t (undefinedPlace k t)
+            ∙ behind s t (undefinedPosition k t)
             ∙ u .is
             ∙ ap (λ l. getD l (suc k) noSymbol) (sym (only-undefined s t e));
       }
@@ -115,17 +115,17 @@ undefined-in (s ∷ t) k h = go (s .defined) refl k h (undefined-in t)
     go false e zero h ih = undefined-first s t e
     go false e (suc k) h ih = undefined-later s t k (ih k (omega arith)) e
 
-place-none : (k : ℕ) → undefinedPlace k [] ≡ 0
-unfolding undefinedPlace
+place-none : (k : ℕ) → undefinedPosition k [] ≡ 0
+unfolding undefinedPosition
 place-none k = refl
 
-pub undefined-out : (t : List Symbol) (k : ℕ) → length (undefinedOnly t) ≤ k → undefinedPlace k t ≡ length t
+pub undefined-out : (t : List Symbol) (k : ℕ) → length (undefinedOnly t) ≤ k → undefinedPosition k t ≡ length t
 unfolding undefinedOnly
 undefined-out [] k h = place-none k
 undefined-out (s ∷ t) k h = go (s .defined) refl k h (undefined-out t)
   where
     go : (b : Bool) → s .defined ≡ b → (k : ℕ) → length (cond b (undefinedOnly t) (s ∷ undefinedOnly t)) ≤ k →
-        ((j : ℕ) → length (undefinedOnly t) ≤ j → undefinedPlace j t ≡ length t) → undefinedPlace k (s ∷ t) ≡ suc (length t)
+        ((j : ℕ) → length (undefinedOnly t) ≤ j → undefinedPosition j t ≡ length t) → undefinedPosition k (s ∷ t) ≡ suc (length t)
     go true e k h ih = omega (arith, place-defined s t k e, ih k h)
     go false e zero h ih = absurd (omega arith)
     go false e (suc k) h ih = omega (arith, place-later s t k e, ih k (omega arith))
@@ -146,8 +146,8 @@ module _ (cells : List ℕ) (s : State) (h : lent cells ≡ holding s) where
   unfolding symbols symbolAt
   symbol-is i n l e b q = rw (h, q) (simp (lt-ltb i (length (s .symbols)) (omega arith)))
 
-  module _ (k p n : ℕ) (at : p ≡ undefinedPlace k (s .symbols)) (count : n ≡ length (s .symbols)) where
-    -- with a place in the table, there is such a symbol
+  module _ (k p n : ℕ) (at : p ≡ undefinedPosition k (s .symbols)) (count : n ≡ length (s .symbols)) where
+    -- with a position in the table, there is such a symbol
     undefined-there : p < n → (b : Bool) → ltb k (length (undefinedOnly (s .symbols))) ≡ b → b ≡ true
     undefined-there l true e = refl
     undefined-there l false e =
@@ -172,6 +172,6 @@ module _ (cells : List ℕ) (s : State) (h : lent cells ≡ holding s) where
         let u = undefined-in (s .symbols) k (ltb-true k (length (undefinedOnly (s .symbols))) there) in
         let y = getD (undefinedOnly (s .symbols)) k noSymbol in
         let same : getD (s .symbols) p noSymbol ≡ y = ap (λ i. getD (s .symbols) i noSymbol) at ∙ u .is in
-        let place : placeOf (y .name) (s .symbols) ≡ p =
-        ap (λ (z : Symbol). placeOf (z .name) (s .symbols)) (sym same) ∙ place-unique (s .symbols) p noSymbol d (omega arith) in
-        rw h (simp there (rw (q, same, r, place)))
+        let position : positionOf (y .name) (s .symbols) ≡ p =
+        ap (λ (z : Symbol). positionOf (z .name) (s .symbols)) (sym same) ∙ place-unique (s .symbols) p noSymbol d (omega arith) in
+        rw h (simp there (rw (q, same, r, position)))

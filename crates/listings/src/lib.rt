@@ -6,7 +6,7 @@ use rules::answer::UndefinedAnswer;
 use soundness::memory::refusal;
 use state::header::symbol_count;
 use state::table::symbol_at;
-use state::table::undefined_place;
+use state::table::undefined_position;
 use state::words::highest;
 ghost use mathlib.Core.Path.{_≡_};
 ghost use Rattle.rules.specs.Calls.{memoryAnswer, symbolNone, undefinedNone, memory as memory-answer, symbols as symbols-answer, undefined as undefined-answer};
@@ -90,11 +90,11 @@ pub fn undefined(state: &[u64], index: u64) -> UndefinedAnswer
     if k != 0 {
         return no_undefined(k, 0);
     }
-    let place = undefined_place(state, index);
-    if symbol_count(state) <= place {
+    let position = undefined_position(state, index);
+    if symbol_count(state) <= position {
         return no_undefined(0, 1);
     }
-    let s = symbol_at(state, place);
+    let s = symbol_at(state, position);
     UndefinedAnswer {
         number: 0,
         line: 0,
@@ -102,6 +102,6 @@ pub fn undefined(state: &[u64], index: u64) -> UndefinedAnswer
         name: s.name,
         value: s.value,
         defined: s.defined,
-        highest: highest(state, place) as u64,
+        highest: highest(state, position) as u64,
     }
 }

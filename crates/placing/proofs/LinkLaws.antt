@@ -11,7 +11,7 @@ use lib.Seq.{set-set, set-comm, set-out, getD-set-same, getD-set-other, getD-tak
 use lib.Dec.{eqb, ltb}
 use borrow.Author.Tests.{eqb-false, ltb-false, ltb-true}
 use Rattle.rules.specs.Text.{any}
-use Rattle.rules.specs.State.{Symbol, nameIs, isSymbol, placeOf, Word, unplaced, plain, refers, isPlaced}
+use Rattle.rules.specs.State.{Symbol, nameIs, isSymbol, positionOf, Word, unplaced, plain, refers, isPlaced}
 use Rattle.rules.specs.Placing.{Code, externalName, mention, mentionAll, linked, putAll, clash, badArgument}
 use Rattle.rules.specs.declared.line.Relocation.{Relocation}
 use Rattle.rules.specs.declared.line.Relocation.the-variants.{Plain, External, Unread}
@@ -20,48 +20,48 @@ use Rattle.rules.proofs.TableLaws.{symbol-mention, symbol-mentionAll}
 use Rattle.rules.proofs.SoundLaws.{place-below}
 use Rattle.rules.proofs.TestLaws.{none-first, none-rest}
 use Rattle.parts.specs.Passes.{badCode}
-use Rattle.placing.specs.Effects.{plainAll, relink, linkAt, placesOf}
+use Rattle.placing.specs.Effects.{plainAll, relink, linkAt, positionsOf}
 use Rattle.placing.proofs.WordLaws.{clash-cons}
 
 -- ---- a place does not move when the table grows
 
-place-new : (x : ℕ) (t : List Symbol) → placeOf x (mention x t) ≡ placeOf x t
-unfolding placeOf mention
+place-new : (x : ℕ) (t : List Symbol) → positionOf x (mention x t) ≡ positionOf x t
+unfolding positionOf mention
 place-new x [] = rw (eqb-same x)
 place-new x (s ∷ t) =
-    cond-cases (λ r. placeOf x r ≡ placeOf x (s ∷ t)) (nameIs x s) _ _ (λ _. refl) (λ e. rw (e, place-new x t))
+    cond-cases (λ r. positionOf x r ≡ positionOf x (s ∷ t)) (nameIs x s) _ _ (λ _. refl) (λ e. rw (e, place-new x t))
 
-place-stays : (x y : ℕ) (t : List Symbol) → isSymbol x t ≡ true → placeOf x (mention y t) ≡ placeOf x t
-unfolding placeOf mention isSymbol any
+place-stays : (x y : ℕ) (t : List Symbol) → isSymbol x t ≡ true → positionOf x (mention y t) ≡ positionOf x t
+unfolding positionOf mention isSymbol any
 place-stays x y [] h = never h refl
 place-stays x y (s ∷ t) h =
-    cond-cases (λ r. placeOf x r ≡ placeOf x (s ∷ t)) (nameIs y s) _ _ (λ _. refl) (λ _. go (nameIs x s) h (place-stays x y t))
+    cond-cases (λ r. positionOf x r ≡ positionOf x (s ∷ t)) (nameIs y s) _ _ (λ _. refl) (λ _. go (nameIs x s) h (place-stays x y t))
   where
-    go : (b : Bool) → (b || isSymbol x t) ≡ true → (isSymbol x t ≡ true → placeOf x (mention y t) ≡ placeOf x t) →
-        cond b 0 (placeOf x (mention y t) + 1) ≡ cond b 0 (placeOf x t + 1)
+    go : (b : Bool) → (b || isSymbol x t) ≡ true → (isSymbol x t ≡ true → positionOf x (mention y t) ≡ positionOf x t) →
+        cond b 0 (positionOf x (mention y t) + 1) ≡ cond b 0 (positionOf x t + 1)
     go true h f = refl
     go false h f = ap (λ k. k + 1) (f h)
 
-places-stay : (x : ℕ) (xs : List ℕ) (t : List Symbol) → isSymbol x t ≡ true → placeOf x (mentionAll xs t) ≡ placeOf x t
+places-stay : (x : ℕ) (xs : List ℕ) (t : List Symbol) → isSymbol x t ≡ true → positionOf x (mentionAll xs t) ≡ positionOf x t
 unfolding mentionAll
 places-stay x [] t h = refl
 places-stay x (y ∷ xs) t h =
     places-stay x xs (mention y t) (symbol-mention x y t ∙ rw h (or-true (eqb y x))) ∙ place-stays x y t h
 
-pub places-map : (xs : List ℕ) (t : List Symbol) → placesOf xs t ≡ map (λ x. placeOf x (mentionAll xs t)) xs
-unfolding placesOf mentionAll
+pub places-map : (xs : List ℕ) (t : List Symbol) → positionsOf xs t ≡ map (λ x. positionOf x (mentionAll xs t)) xs
+unfolding positionsOf mentionAll
 places-map [] t = refl
 places-map (x ∷ xs) t =
     let there : isSymbol x (mention x t) ≡ true = symbol-mention x x t ∙ rw (eqb-same x) in
     ap₂ _∷_ (sym (places-stay x xs (mention x t) there ∙ place-new x t)) (places-map xs (mention x t))
 
 -- what stands at place k, for the externals of a module that joined
-module _ (xs : List ℕ) (t : List Symbol) (at : List ℕ) (e : take (length xs) at ≡ placesOf xs t) (k : ℕ) (h : k < length xs) where
-  pub place-at : getD at k 0 ≡ placeOf (getD xs k 0) (mentionAll xs t)
+module _ (xs : List ℕ) (t : List Symbol) (at : List ℕ) (e : take (length xs) at ≡ positionsOf xs t) (k : ℕ) (h : k < length xs) where
+  pub place-at : getD at k 0 ≡ positionOf (getD xs k 0) (mentionAll xs t)
   place-at =
       sym (getD-take (length xs) at k 0 h)
       ∙ ap (λ l. getD l k 0) (e ∙ places-map xs t)
-      ∙ map-at xs k h (λ x. placeOf x (mentionAll xs t))
+      ∙ map-at xs k h (λ x. positionOf x (mentionAll xs t))
     where
       map-at : (xs : List ℕ) (k : ℕ) → k < length xs → (f : ℕ → ℕ) → getD (map f xs) k 0 ≡ f (getD xs k 0)
       map-at [] k h f = absurd (not-suc-le-zero h)
@@ -127,7 +127,7 @@ clash-rest base c cs ws w p h =
     or-off (isPlaced (getD ws i unplaced)) (clash base cs (set ws i w)) (sym (clash-cons base c cs ws w p) ∙ h) .1
 
 module _ (base : ℕ) (xs : List ℕ) (t : List Symbol) (at : List ℕ)
-    (is : (k : ℕ) → k < length xs → getD at k 0 ≡ placeOf (getD xs k 0) t) where
+    (is : (k : ℕ) → k < length xs → getD at k 0 ≡ positionOf (getD xs k 0) t) where
   -- one word linked, over the others laid
   relink-is : (cs : List Code) (ws : List Word) (a text : ℕ) (r : Relocation) → badArgument (length xs) r ≡ false →
       clash base cs (set ws a (plain text)) ≡ false →

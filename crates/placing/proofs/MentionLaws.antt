@@ -10,7 +10,7 @@ use lib.ListN.{length, getD, set, take, length-set}
 use lib.Seq.{take-suc-set}
 use lib.Dec.{eqb, leb, ltb}
 use borrow.Author.Tests.{eq-eqb, ne-eqb, lt-ltb, leb-false, le-leb, lt-leb}
-use Rattle.rules.specs.State.{Symbol, nameIs, placeOf, isSymbol, State}
+use Rattle.rules.specs.State.{Symbol, nameIs, positionOf, isSymbol, State}
 use Rattle.rules.specs.Placing.{externalsIn, mention, mentionAll}
 use Rattle.rules.specs.Calls.{withSymbols}
 use Rattle.rules.proofs.BoolLaws.{never}
@@ -20,8 +20,8 @@ use Rattle.state.specs.Good.{Good, Holds}
 use Rattle.state.specs.Table.{Joined, MentionedAt}
 use Rattle.parts.specs.Cells.{partsFrom, isExternal}
 use Rattle.parts.proofs.CellLaws.{parts-done, parts-next, externals-cons}
-use Rattle.placing.specs.Effects.{mentioned, placesOf, Mentioned, Mentioning}
-use Rattle.placing.specs.declared.symbols.Places.{Places}
+use Rattle.placing.specs.Effects.{mentioned, positionsOf, Mentioned, Mentioning}
+use Rattle.placing.specs.declared.symbols.Mentions.{Mentions}
 
 module _ (whole : List ℕ) (s₀ : State) (at : List ℕ) (n : ℕ) where
   module _ (cells : List ℕ) (i : ℕ) (h : 1 < length cells - i) (s : State)
@@ -69,7 +69,7 @@ module _ (whole : List ℕ) (s₀ : State) (at : List ℕ) (n : ℕ) where
             }
 
         pub mention-put : length whole ≤ 64 → place ≢ 256 → Mentioning whole s₀ (n + 1) (set at n place) rest (decode after)
-        unfolding placesOf mentionAll
+        unfolding positionsOf mentionAll
         mention-put few e =
             let t = mention body (s .symbols) in
             let room : leb (length t) 256 ≡ true = sym (m .joined .room) ∙ lt-ltb place 256 (omega (arith, m .most)) in
@@ -81,9 +81,9 @@ module _ (whole : List ℕ) (s₀ : State) (at : List ℕ) (n : ℕ) where
               places =
                   ap₂ _++_
                   (ap (λ k. take k (set at n place)) (add-one n) ∙ take-suc-set at n place inside)
-                  (ap (λ (v : State). placesOf rest (v .symbols)) is)
-                  ∙ append-assoc (take n at) (place ∷ []) (placesOf rest t)
-                  ∙ ap (λ p. take n at ++ (p ∷ placesOf rest t)) (m .is)
+                  (ap (λ (v : State). positionsOf rest (v .symbols)) is)
+                  ∙ append-assoc (take n at) (place ∷ []) (positionsOf rest t)
+                  ∙ ap (λ p. take n at ++ (p ∷ positionsOf rest t)) (m .is)
                   ∙ here .places;
               mentioned-is = ap (mentioned rest) is ∙ here .mentioned-is;
             }
@@ -91,7 +91,7 @@ module _ (whole : List ℕ) (s₀ : State) (at : List ℕ) (n : ℕ) where
   pub mention-done : (cells : List ℕ) (i : ℕ) → length cells - i ≤ 1 → (state : List ℕ) → Good state →
       Mentioning whole s₀ n at (externalsIn (partsFrom cells i)) (decode state) →
       Mentioned whole s₀ (record { room = true; at = at }) state
-  unfolding externalsIn placesOf mentionAll
+  unfolding externalsIn positionsOf mentionAll
   mention-done cells i h state g l =
       let e : Mentioning whole s₀ n at [] (decode state) =
       subst (λ xs. Mentioning whole s₀ n at xs (decode state)) (ap externalsIn (parts-done cells i h)) l in

@@ -18,8 +18,8 @@ use Rattle.rules.proofs.SoundLaws.{mentionAll-longer}
 use Rattle.state.specs.Layout.{decode}
 use Rattle.state.specs.Good.{Good, Holds, withNext}
 use Rattle.parts.specs.Passes.{badCode, overRange, repeated, namesIn}
-use Rattle.placing.specs.Effects.{laid, Laid, Linkable, relinked, linkAt, plainAll, entered, enteringFault, Entered, mentioned, placesOf, Mentioned, Tried}
-use Rattle.placing.specs.declared.symbols.Places.{Places}
+use Rattle.placing.specs.Effects.{laid, Laid, Linkable, relinked, linkAt, plainAll, entered, enteringFault, Entered, mentioned, positionsOf, Mentioned, Tried}
+use Rattle.placing.specs.declared.symbols.Mentions.{Mentions}
 use Rattle.placing.proofs.LinkLaws.{place-at, place-there, link-laid}
 
 -- the tests, at a base
@@ -106,7 +106,7 @@ module _ (s : State) (ps : List Part) {base : ℕ} (b : base ≡ s .next) where
                   stopped false true g i q z = (rw (i refl) (sym q), omega arith)
                   stopped false false g i q z = absurd (z q)
 
-              module _ (z : d ≡ 0) {w : Places} {st₃ : List ℕ} (y : Mentioned (externalsIn ps) (decode st₂) w st₃) where
+              module _ (z : d ≡ 0) {w : Mentions} {st₃ : List ℕ} (y : Mentioned (externalsIn ps) (decode st₂) w st₃) where
                 -- no name stands twice
                 single : repeated (s .symbols) (namesIn ps) ≡ false
                 single = go (repeated (s .symbols) (namesIn ps)) _ (sym entering ∙ z)
@@ -140,8 +140,8 @@ module _ (s : State) (ps : List Part) {base : ℕ} (b : base ≡ s .next) where
                   state₃ : decode st₃ ≡ mentioned (externalsIn ps) (entered base (entriesIn ps) (laid base (codeIn ps) s))
                   state₃ = y .done roomy ∙ ap (mentioned (externalsIn ps)) state₂
 
-                  places-are : take (length (externalsIn ps)) at ≡ placesOf (externalsIn ps) (defineAll base (entriesIn ps) (s .symbols))
-                  places-are = y .places roomy ∙ ap (λ (v : State). placesOf (externalsIn ps) (v .symbols)) state₂
+                  places-are : take (length (externalsIn ps)) at ≡ positionsOf (externalsIn ps) (defineAll base (entriesIn ps) (s .symbols))
+                  places-are = y .places roomy ∙ ap (λ (v : State). positionsOf (externalsIn ps) (v .symbols)) state₂
 
                   pub can-link : length (externalsIn ps) ≤ 64 → Linkable (length (externalsIn ps)) (codeIn ps) at (decode st₃)
                   can-link few =

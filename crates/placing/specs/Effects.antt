@@ -7,7 +7,7 @@ use lib.ListN.{length, getD, set, take}
 use lib.Dec.{leb, ltb}
 use Rattle.rules.specs.Text.{any}
 use Rattle.rules.specs.Reading.{Module}
-use Rattle.rules.specs.State.{Symbol, placeOf, Word, plain, refers, State}
+use Rattle.rules.specs.State.{Symbol, positionOf, Word, plain, refers, State}
 use Rattle.rules.specs.Placing.{Code, entryName, clash, defineAll, mention, mentionAll, placingFault, placed}
 use Rattle.rules.specs.Calls.{withSymbols}
 use Rattle.rules.specs.declared.line.Entry.{Entry}
@@ -16,7 +16,7 @@ use Rattle.rules.specs.declared.line.Relocation.the-variants.{Plain, External, 
 use Rattle.state.specs.Layout.{decode}
 use Rattle.state.specs.Good.{Good, withWords}
 use Rattle.parts.specs.Passes.{badCode, repeated}
-use Rattle.placing.specs.declared.symbols.Places.{Places}
+use Rattle.placing.specs.declared.symbols.Mentions.{Mentions}
 
 -- ---- words: first all of them without their references, then the references
 
@@ -95,21 +95,21 @@ abbrev pub mentioned : List ℕ → State → State
 mentioned xs s = withSymbols (mentionAll xs (s .symbols)) s
 
 -- the place of each external as it joins
-unfoldable pub placesOf : List ℕ → List Symbol → List ℕ
-placesOf [] t = []
-placesOf (x ∷ xs) t = placeOf x t ∷ placesOf xs (mention x t)
+unfoldable pub positionsOf : List ℕ → List Symbol → List ℕ
+positionsOf [] t = []
+positionsOf (x ∷ xs) t = positionOf x t ∷ positionsOf xs (mention x t)
 
-pub record Mentioned (xs : List ℕ) (s : State) (r : Places) (after : List ℕ) : Type 0 where
+pub record Mentioned (xs : List ℕ) (s : State) (r : Mentions) (after : List ℕ) : Type 0 where
   pub room-is : r .room ≡ leb (length (mentionAll xs (s .symbols))) 256
   pub good : Good after
   pub done : r .room ≡ true → decode after ≡ mentioned xs s
-  pub places : r .room ≡ true → take (length xs) (r .at) ≡ placesOf xs (s .symbols)
+  pub places : r .room ≡ true → take (length xs) (r .at) ≡ positionsOf xs (s .symbols)
 
 -- on the way, with the places of the first n externals
 pub record Mentioning (whole : List ℕ) (s₀ : State) (n : ℕ) (at : List ℕ) (rest : List ℕ) (s : State) : Type 0 where
   pub long : length at ≡ 64
   pub count : n + length rest ≡ length whole
-  pub places : take n at ++ placesOf rest (s .symbols) ≡ placesOf whole (s₀ .symbols)
+  pub places : take n at ++ positionsOf rest (s .symbols) ≡ positionsOf whole (s₀ .symbols)
   pub mentioned-is : mentioned rest s ≡ mentioned whole s₀
 
 -- ---- a module

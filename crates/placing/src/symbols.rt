@@ -69,13 +69,13 @@ pub fn enter(parts: &[u64], base: usize, state: &mut [u64]) -> u64
 }
 
 // Whether the table had room for the externals, and then the place of each.
-pub struct Places {
+pub struct Mentions {
     pub room: bool,
     pub at: [u16; 64],
 }
 
 // The guesses are those of the table as it is before.
-pub fn mention_all(parts: &[u64], guesses: [u16; 512], state: &mut [u64]) -> Places
+pub fn mention_all(parts: &[u64], guesses: [u16; 512], state: &mut [u64]) -> Mentions
     requires { ⌜ length (externalsIn (partsOf (now parts))) ≤ 64 ⌝ }
     requires { ⌜ Good (now state) ⌝ }
     ensures { λ r. ⌜ Mentioned (externalsIn (partsOf (now (parts .entry)))) (decode (now (state .entry))) r (now (state .exit)) ⌝ }
@@ -92,11 +92,11 @@ pub fn mention_all(parts: &[u64], guesses: [u16; 512], state: &mut [u64]) -> Pla
             let guess = guesses[(name % 509) as usize] as usize;
             let place = mention_at(state, name, guess);
             if place == 256 {
-                return Places { room: false, at };
+                return Mentions { room: false, at };
             }
             at[count] = place as u16;
             count += 1;
         }
     }
-    Places { room: true, at }
+    Mentions { room: true, at }
 }

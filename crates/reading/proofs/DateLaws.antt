@@ -6,13 +6,13 @@ use mathlib.Core.List.{List}
 use mathlib.Core.Path.{_≡_, refl}
 use lib.Dec.{eqb, leb, ltb}
 use Rattle.rules.specs.Line.{lineAnswer}
-use Rattle.rules.specs.Reading.{atStart, want, wantRecords, recordDone, wantSubs, titleHeader, enterModule, leaveModule, enterSection, leaveSection, countEntry, countExternal, titleStep, libraryStep, libraryEndStep, headerStep, closingStep, entryStep, externalStep, parameterStep, subStep, stepOf, stepAt}
+use Rattle.rules.specs.Reading.{atStart, expect, expectRecords, recordDone, expectSubs, titleHeader, enterModule, leaveModule, enterSection, leaveSection, countEntry, countExternal, titleStep, libraryStep, libraryEndStep, headerStep, closingStep, entryStep, externalStep, parameterStep, subStep, stepOf, stepAt}
 use Rattle.rules.specs.declared.line.Header.{Header}
 use Rattle.rules.specs.declared.line.Header.the-variants.{CodeBlock, EndBlock, TitleBlock, EntryBlock, ExternalBlock, LibraryStart, LibraryEnd, DataBlock, InitBlock, ParameterBlock}
 use Rattle.rules.specs.declared.line.LineAnswer.{LineAnswer}
 use Rattle.rules.specs.declared.line.LineAnswer.the-variants.{Bad, Blank, Head, Opening, Closing, Code, Entered, Mentioned, Ignored, Parameter, Sub}
-use Rattle.rules.specs.declared.line.Wanted.{Wanted}
-use Rattle.rules.specs.declared.line.Wanted.the-variants.{EntryRecord, ExternalRecord, DataRecord, InitRecord, ParameterRecord}
+use Rattle.rules.specs.declared.line.Expected.{Expected}
+use Rattle.rules.specs.declared.line.Expected.the-variants.{EntryRecord, ExternalRecord, DataRecord, InitRecord, ParameterRecord}
 use Rattle.rules.specs.declared.reading.Mode.{Mode}
 use Rattle.rules.specs.declared.reading.Step.{Step}
 use Rattle.rules.specs.declared.reading.Step.the-variants.{Stop, Next, Add, CloseModule, CloseSection}
@@ -51,20 +51,20 @@ module _ (last : ℕ) where
     same : (x : Mode) → x .object .line ≡ m .object .line → x .section .line ≡ m .section .line → Dated last x
     same x p q = record { object = omega (arith, d .object); section = omega (arith, d .section) }
 
-    records-dated : (w : Wanted) (count : ℕ) → DatedStep last (cond (m .object .inside) (Next (wantRecords w 0 count m)) (Stop 7 0))
-    unfolding wantRecords
+    records-dated : (w : Expected) (count : ℕ) → DatedStep last (cond (m .object .inside) (Next (expectRecords w 0 count m)) (Stop 7 0))
+    unfolding expectRecords
     records-dated w count = unless (m .object .inside) _ 7 0 (same _ refl refl)
 
-    done-dated : (w : Wanted) → Dated last (recordDone w m)
+    done-dated : (w : Expected) → Dated last (recordDone w m)
     unfolding recordDone
     done-dated w = same _ refl refl
 
-    subs-dated : (size : ℕ) → Dated last (wantSubs size m)
-    unfolding wantSubs
+    subs-dated : (size : ℕ) → Dated last (expectSubs size m)
+    unfolding expectSubs
     subs-dated size = same _ refl refl
 
     header-dated : (h : Header) → DatedStep last (headerStep n m h)
-    unfolding headerStep want wantRecords titleStep titleHeader libraryStep enterSection libraryEndStep leaveSection
+    unfolding headerStep expect expectRecords titleStep titleHeader libraryStep enterSection libraryEndStep leaveSection
     header-dated (CodeBlock count offset) = unless (m .object .inside) _ 7 0 (same _ refl refl)
     header-dated EndBlock = unless (m .object .inside) _ 7 0 (same _ refl refl)
     header-dated TitleBlock =
@@ -97,4 +97,4 @@ module _ (last : ℕ) where
     answer-dated Sub = either-mode (leb (m .block .subs) 1) _ _ (done-dated ParameterRecord) (subs-dated (m .block .subs - 1))
 
     pub line-dated : (l : List ℕ) → DatedStep last (stepAt n m l)
-    line-dated l = answer-dated (lineAnswer (m .wanted) l)
+    line-dated l = answer-dated (lineAnswer (m .expected) l)

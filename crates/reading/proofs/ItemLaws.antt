@@ -8,7 +8,8 @@ use mathlib.Core.Path.{_≡_, refl, sym, ap, ap₂, subst, _∙_}
 use lib.ListN.{length, length-append}
 use borrow.Author.Tests.{ltb-true}
 use Rattle.rules.specs.Text.{all, linesOf}
-use Rattle.rules.specs.Reading.{atStart, stepAt, Module, Item, free, section, moduleAt, moduleDone, gather, itemsFrom, itemsOf}
+use Rattle.rules.specs.Reading.{atStart, stepAt, Module, Item, free, section, moduleAt, itemsOf}
+use Rattle.rules.proofs.FoldLaws.{closed, gather, itemsFrom, items-lines}
 use Rattle.rules.specs.Placing.{codeIn, lengthIn}
 use Rattle.rules.specs.declared.reading.Mode.{Mode}
 use Rattle.rules.specs.declared.reading.OpenSection.{OpenSection}
@@ -190,8 +191,8 @@ module _ (parts rows : List ℕ) where
           (b : Bool) (m : Mode) (line : ℕ) → m .section .inside ≡ b → After ps ms (CloseModule m line)
           → Final (go m (addModule b line t))
           → (d : ℕ) → length (go m (addModule b line t) .rows) ≡ length (t .rows) + d
-          → itemsFromRow parts rows (length (t .rows)) d ≡ moduleDone b (moduleAt line ps) m ms items
-      unfolding addModule moduleDone
+          → itemsFromRow parts rows (length (t .rows)) d ≡ closed b (moduleAt line ps) m ms items
+      unfolding addModule closed
       module-items b m line w a f zero e =
           absurd (omega (arith, e, rows-grow (grows m (addModule b line t)), one-row t (moduleRow b line t)))
       module-items true m line w a f (suc d) e =
@@ -289,7 +290,7 @@ empty-open parts rows = record { closed = []; last-parts = refl; first-part = re
 pub tables-hold :
     {file lentParts lentRows : List ℕ} {r : FileRead} {parts rows : List ℕ} → ReadInto file lentParts lentRows r parts rows
     → itemsIn parts rows (r .rows) ≡ itemsOf file
-unfolding itemsIn itemsOf tablesOf empty
+unfolding itemsIn tablesOf empty
 tables-hold {file} {lentParts} {lentRows} {r} {parts} {rows} h =
     let final : Final parts rows (tablesOf file) =
     record {
@@ -302,3 +303,4 @@ tables-hold {file} {lentParts} {lentRows} {r} {parts} {rows} h =
     } in
     items-from parts rows (linesOf file) 1 atStart empty [] [] start-stands (empty-open parts rows) final (r .rows)
     (omega (arith, h .rows))
+    ∙ sym (items-lines file)

@@ -4,24 +4,25 @@ use Prim.Native.Nat.{ℕ, _+_, _-_, _*_, _≤_}
 use native.Mathlib.Omega.{arith}
 use mathlib.Core.Bool.{Bool, true, false, cond, not, _&&_, _||_, or-true}
 use mathlib.Core.List.{List, [], _∷_}
-use mathlib.Core.Path.{_≡_, refl}
+use mathlib.Core.Path.{_≡_, refl, ap}
 use lib.ListN.{length}
 use lib.Dec.{eqb, leb, ltb}
-use Rattle.rules.specs.Text.{LF, CR, linesOf, addToLines, startsLF, widenLine, fieldsOf, fieldsFrom, legalFront}
+use Rattle.rules.specs.Text.{LF, CR, linesOf, widenLine, fieldsOf, fieldsFrom, legalFront}
+use Rattle.rules.proofs.LineEndLaws.{startsLF, addToLines, lines-nil, lines-cons}
 use Rattle.rules.specs.Line.{lineAnswer, testBytes, lineOf}
-use Rattle.rules.specs.Reading.{mode, atStart, want, wantRecords, recordDone, wantSubs, titleHeader, enterModule, leaveModule, enterSection, leaveSection, countEntry, countExternal, titleStep, libraryStep, libraryEndStep, headerStep, closingStep, entryStep, externalStep, parameterStep, subStep, stepOf, stepAt}
+use Rattle.rules.specs.Reading.{mode, atStart, expect, expectRecords, recordDone, expectSubs, titleHeader, enterModule, leaveModule, enterSection, leaveSection, countEntry, countExternal, titleStep, libraryStep, libraryEndStep, headerStep, closingStep, entryStep, externalStep, parameterStep, subStep, stepOf, stepAt}
 use Rattle.rules.specs.declared.line.Header.{Header}
 use Rattle.rules.specs.declared.line.Header.the-variants.{CodeBlock, EndBlock, TitleBlock, EntryBlock, ExternalBlock, LibraryStart, LibraryEnd, DataBlock, InitBlock, ParameterBlock}
 use Rattle.rules.specs.declared.line.LineAnswer.{LineAnswer}
-use Rattle.rules.specs.declared.line.Wanted.{Wanted}
-use Rattle.rules.specs.declared.line.Wanted.the-variants.{AnyHeader, OpeningTitle, ClosingTitle, CodeRecord, EntryRecord, ExternalRecord, DataRecord, InitRecord, ParameterRecord, SubRecord}
+use Rattle.rules.specs.declared.line.Expected.{Expected}
+use Rattle.rules.specs.declared.line.Expected.the-variants.{AnyHeader, OpeningTitle, ClosingTitle, CodeRecord, EntryRecord, ExternalRecord, DataRecord, InitRecord, ParameterRecord, SubRecord}
 use Rattle.rules.specs.declared.reading.OpenBlock.{OpenBlock}
 use Rattle.rules.specs.declared.reading.OpenModule.{OpenModule}
 use Rattle.rules.specs.declared.reading.OpenSection.{OpenSection}
 use Rattle.rules.specs.declared.reading.Mode.{Mode}
 use Rattle.rules.specs.declared.reading.Step.{Step}
 use Rattle.rules.specs.declared.reading.Step.the-variants.{Stop, Next, Add, CloseModule, CloseSection}
-use Rattle.rules.proofs.LineLaws.{Told, bad, blank, head, opening, closing, coded, entered, mentioned, dataRead, initRead, parameter, sub, line-told}
+use Rattle.rules.proofs.LineLaws.{CanSay, bad, blank, head, opening, closing, coded, entered, mentioned, dataRead, initRead, parameter, sub, line-can-say}
 use Rattle.reading.specs.TwoTables.{Tables}
 
 -- ---- the bytes of lines, with an end for each
@@ -47,9 +48,10 @@ add-weight b lf ls k h =
 
 -- only the last line may lack its end
 pub lines-weight : (text : List ℕ) → weight (linesOf text) ≤ length text + 1
-unfolding linesOf weight
-lines-weight [] = omega arith
-lines-weight (b ∷ rest) = omega (arith, add-weight b (startsLF rest) (linesOf rest) (length rest) (lines-weight rest))
+unfolding weight
+lines-weight [] = rw lines-nil (omega arith)
+lines-weight (b ∷ rest) =
+    omega (arith, ap weight (lines-cons b rest), add-weight b (startsLF rest) (linesOf rest) (length rest) (lines-weight rest))
 
 length-weight : (ls : List (List ℕ)) → length ls ≤ weight ls
 unfolding weight
@@ -62,7 +64,7 @@ lines-count text = omega (arith, lines-weight text, length-weight (linesOf text)
 -- ---- what the reading has paid for in advance
 
 -- an END header before its title, an LSB header before its LEB
-unfoldable pub awaited : Wanted → ℕ
+unfoldable pub awaited : Expected → ℕ
 awaited AnyHeader = 0
 awaited OpeningTitle = 0
 awaited ClosingTitle = 2
@@ -75,7 +77,7 @@ awaited ParameterRecord = 0
 awaited SubRecord = 0
 
 unfoldable pub pending : Mode → ℕ
-pending m = awaited (m .wanted) + cond (m .section .inside) 2 0
+pending m = awaited (m .expected) + cond (m .section .inside) 2 0
 
 -- what is paid for after a step, with what it adds
 unfoldable pub spent : Step → ℕ
@@ -98,7 +100,7 @@ choose-mode true x y k p q = p
 choose-mode false x y k p q = q
 
 -- records of a block follow, or a header
-none-awaited : (t : Bool) (w : Wanted) → awaited w ≡ 0 → awaited (cond t AnyHeader w) ≡ 0
+none-awaited : (t : Bool) (w : Expected) → awaited w ≡ 0 → awaited (cond t AnyHeader w) ≡ 0
 unfolding awaited
 none-awaited true w e = refl
 none-awaited false w e = e
@@ -111,10 +113,10 @@ unless t x j c k h = choose-step t x (Stop j c) k h (omega arith)
 module _ (n : ℕ) (b : OpenBlock) (o : OpenModule) (s : OpenSection) where
   -- a header
   records-spend :
-      (w : Wanted) (count : ℕ) → awaited w ≡ 0
-      → spent (cond (o .inside) (Next (wantRecords w 0 count (mode AnyHeader b o s))) (Stop 7 0))
+      (w : Expected) (count : ℕ) → awaited w ≡ 0
+      → spent (cond (o .inside) (Next (expectRecords w 0 count (mode AnyHeader b o s))) (Stop 7 0))
       ≤ pending (mode AnyHeader b o s) + 2
-  unfolding spent pending wantRecords
+  unfolding spent pending expectRecords
   records-spend w count e = unless (o .inside) _ 7 0 _ (omega (arith, none-awaited (eqb count 0) w e))
 
   library-end-spends : spent (libraryEndStep (mode AnyHeader b o s)) ≤ pending (mode AnyHeader b o s) + 2
@@ -127,7 +129,7 @@ module _ (n : ℕ) (b : OpenBlock) (o : OpenModule) (s : OpenSection) where
       ]
 
   header-spends : (h : Header) → spent (headerStep n (mode AnyHeader b o s) h) ≤ pending (mode AnyHeader b o s) + 2
-  unfolding spent pending awaited headerStep want wantRecords titleStep titleHeader libraryStep enterSection
+  unfolding spent pending awaited headerStep expect expectRecords titleStep titleHeader libraryStep enterSection
   header-spends (CodeBlock count offset) = unless (o .inside) _ 7 0 _ (omega (arith, none-awaited (eqb count 0) CodeRecord refl))
   header-spends EndBlock = unless (o .inside) _ 7 0 _ (omega arith)
   header-spends TitleBlock =
@@ -142,15 +144,15 @@ module _ (n : ℕ) (b : OpenBlock) (o : OpenModule) (s : OpenSection) where
   header-spends (ParameterBlock count) = records-spend ParameterRecord count refl
 
   -- a record of kind w is done
-  done-spends : (v w : Wanted) → awaited w ≡ 0 → pending (recordDone w (mode v b o s)) ≤ pending (mode v b o s)
+  done-spends : (v w : Expected) → awaited w ≡ 0 → pending (recordDone w (mode v b o s)) ≤ pending (mode v b o s)
   unfolding pending recordDone
   done-spends v w e = omega (arith, none-awaited (leb (b .remaining) 1) w e)
 
-  -- what a line can say where w is wanted
+  -- what a line can say where w is expected
   answer-spends :
-      (w : Wanted) {a : LineAnswer} → Told w a
+      (w : Expected) {a : LineAnswer} → CanSay w a
       → spent (stepOf n (mode w b o s) a) ≤ pending (mode w b o s) + 2
-  unfolding spent pending awaited stepOf enterModule closingStep leaveModule entryStep countEntry externalStep countExternal recordDone parameterStep subStep wantSubs
+  unfolding spent pending awaited stepOf enterModule closingStep leaveModule entryStep countEntry externalStep countExternal recordDone parameterStep subStep expectSubs
   answer-spends w bad = omega arith
   answer-spends w blank = omega arith
   answer-spends w (head {h} l) = header-spends h
@@ -176,7 +178,7 @@ pub line-spends : (n : ℕ) (m : Mode) (l : List ℕ) → spent (stepAt n m l) �
 unfolding spent
 line-spends n m [] = rw empty-line (omega arith)
 line-spends n m (x ∷ l) =
-    omega (arith, answer-spends n (m .block) (m .object) (m .section) (m .wanted) (line-told (m .wanted) (x ∷ l)))
+    omega (arith, answer-spends n (m .block) (m .object) (m .section) (m .expected) (line-can-say (m .expected) (x ∷ l)))
 
 pub start-pending : pending atStart ≡ 0
 unfolding pending awaited atStart

@@ -6,7 +6,8 @@ use mathlib.Core.Path.{_≡_, refl, sym, ap, subst, _∙_}
 use lib.ListN.{length, drop, length-append}
 use Rattle.rules.specs.Text.{linesOf}
 use Rattle.rules.specs.Line.{lineAnswer}
-use Rattle.rules.specs.Reading.{atStart, stepOf, stepAt, atEnd, onward, readFrom, readingOf}
+use Rattle.rules.specs.Reading.{atStart, stepOf, stepAt, atEnd, readingOf}
+use Rattle.rules.proofs.FoldLaws.{onStep, readFrom, reading-lines}
 use Rattle.rules.specs.Calls.{overwritten}
 use Rattle.rules.specs.declared.line.LineAnswer.{LineAnswer}
 use Rattle.rules.specs.declared.reading.Mode.{Mode}
@@ -53,7 +54,7 @@ module _ (file lentParts lentRows : List ℕ) where
   pub start :
       {m : Mode} {f : Filled} → Lent file lentParts lentRows → m ≡ atStart → f ≡ filledOf empty
       → Before lentParts lentRows m f 1 0
-  unfolding readingOf tablesOf empty cellsOf used
+  unfolding tablesOf empty cellsOf used
   start {m} {f} l d e =
       record {
         here = empty;
@@ -63,7 +64,7 @@ module _ (file lentParts lentRows : List ℕ) where
         part-size = l .part-room;
         row-size = l .row-room;
         begun = empty-begun;
-        reading = ap (λ (k : Mode). readFrom 1 k (linesOf file)) d;
+        reading = ap (λ (k : Mode). readFrom 1 k (linesOf file)) d ∙ sym (reading-lines file);
         tables = ap (λ (k : Mode). tablesFrom 1 k empty (linesOf file)) d;
         room = omega (arith, lines-weight file, ap pending d ∙ start-pending);
         numbered = omega arith;
@@ -75,7 +76,7 @@ module _ (file lentParts lentRows : List ℕ) where
 
   -- line n takes the step s, and the next line starts at next
   pub record Turn (here : Tables) (n next : ℕ) (s : Step) : Type 0 where
-    pub reading : onward n s (λ m. readFrom (n + 1) m (rest next)) ≡ readingOf file
+    pub reading : onStep n s (λ m. readFrom (n + 1) m (rest next)) ≡ readingOf file
     pub tables : emit s here (λ m t. tablesFrom (n + 1) m t (rest next)) ≡ tablesOf file
     pub room : used here + spent s + weight (rest next) ≤ length file + 1
     pub numbered : n ≤ next
@@ -84,7 +85,7 @@ module _ (file lentParts lentRows : List ℕ) where
   module _ {parts rows : List ℕ} {m : Mode} {f : Filled} {n at : ℕ} (b : Before parts rows m f n at) where
     pub turn :
         {r : LineSpan} → NextLine at file r → {h : Mode} → h ≡ m
-        → {a : LineAnswer} → a ≡ lineAnswer (h .wanted) (part at (r .stop) file)
+        → {a : LineAnswer} → a ≡ lineAnswer (h .expected) (part at (r .stop) file)
         → {s : Step} → s ≡ stepOf n h a → Turn (b .here) n (r .next) s
     unfolding readFrom tablesFrom weight
     turn {r} l {h} g {a} p {s} q =
@@ -92,7 +93,7 @@ module _ (file lentParts lentRows : List ℕ) where
         let e : s ≡ stepAt n m line = q ∙ ap (stepOf n h) p ∙ ap (λ (k : Mode). stepAt n k line) g in
         record {
           reading =
-              ap (λ (x : Step). onward n x (λ k. readFrom (n + 1) k (rest (r .next)))) e
+              ap (λ (x : Step). onStep n x (λ k. readFrom (n + 1) k (rest (r .next)))) e
               ∙ sym (ap (readFrom n m) (l .lines))
               ∙ b .reading;
           tables =
@@ -130,7 +131,7 @@ module _ (file lentParts lentRows : List ℕ) where
 
     module _ {next : ℕ} {k : Mode} where
       pub skipped : Turn (b .here) n next (Next k) → Before parts rows k f (n + 1) next
-      unfolding onward emit spent
+      unfolding onStep emit spent
       skipped t =
           proceed t (b .here) (b .counts) (b .part-cells) (b .row-cells) (b .part-size) (b .row-size) (b .begun)
           (t .reading) (t .tables) (t .room)
@@ -138,7 +139,7 @@ module _ (file lentParts lentRows : List ℕ) where
       pub added :
           {p : Part} → Turn (b .here) n next (Add k p) → {g : Filled} {new : List ℕ} → Fills partsIn (addPart p) f parts g new
           → length new ≡ length parts → Before new rows k g (n + 1) next
-      unfolding onward emit spent addPart used
+      unfolding onStep emit spent addPart used
       added {p} t h e =
           let more = length-append (b .here .parts) (p ∷ []) in
           proceed t (addPart p (b .here)) (h .counts (b .here) (b .counts)) (h .cells (b .here) lentParts (b .counts) (b .part-cells))
@@ -165,7 +166,7 @@ module _ (file lentParts lentRows : List ℕ) where
         pub module-closed :
             {line : ℕ} → Turn (b .here) n next (CloseModule k line)
             → Fills rowsIn (addModule (k .section .inside) line) f rows g new → Before parts new k g (n + 1) next
-        unfolding onward emit spent addModule
+        unfolding onStep emit spent addModule
         module-closed {line} t h =
             filed t (addModule (k .section .inside) line) h refl (length-append (b .here .rows) _)
             (module-begun (b .begun) (k .section .inside) line) (t .reading) (t .tables) (t .room)
@@ -173,7 +174,7 @@ module _ (file lentParts lentRows : List ℕ) where
         pub section-closed :
             {line : ℕ} → Turn (b .here) n next (CloseSection k line) → Fills rowsIn (addSection line) f rows g new
             → Before parts new k g (n + 1) next
-        unfolding onward emit spent addSection
+        unfolding onStep emit spent addSection
         section-closed {line} t h =
             filed t (addSection line) h refl (length-append (b .here .rows) _) (section-begun line (b .here))
             (t .reading) (t .tables) (t .room)
@@ -230,7 +231,7 @@ module _ (file lentParts lentRows : List ℕ) where
     pub faulty :
         {next j c : ℕ} → Turn (b .here) n next (Stop j c) → {x : FileRead} → x ≡ fileRead (Stopped j n c) f
         → ReadInto file lentParts lentRows x parts rows
-    unfolding onward emit
+    unfolding onStep emit
     faulty t e = subst (λ (x : FileRead). ReadInto file lentParts lentRows x parts rows) (sym e) (finished (t .reading) (t .tables))
 
     pub whole : length file ≤ at → {x : Reading} → x ≡ atEnd n m → ReadInto file lentParts lentRows (fileRead x f) parts rows

@@ -1,4 +1,4 @@
--- What the reading leaves in the two tables: the steps of rules' `readFrom`, with what each of them adds.
+-- What the reading leaves in the two tables: the steps of rules' reading, with what each of them adds.
 use Prim.Native.Nat.{ℕ, _+_}
 use mathlib.Core.Bool.{Bool, cond}
 use mathlib.Core.List.{List, [], _∷_, _++_}

@@ -26,7 +26,7 @@ pub struct FileRead {
 }
 
 // A fault at line n.
-fn stopped(number: u16, n: u32, column: usize, filled: Filled) -> FileRead
+fn stopped(number: u64, n: u32, column: usize, filled: Filled) -> FileRead
     ensures { λ r. ⌜ r ≡ fileRead (Stopped number n column) filled ⌝ }
 {
     FileRead {
@@ -53,8 +53,8 @@ pub fn read_file(file: &[u8], parts: &mut [u64], rows: &mut [u64]) -> FileRead
         let n = line;
         let span = line_from(file, at);
         let here = renewed(mode);
-        let wanted = here.wanted;
-        let answer = line_answer(file, at, span.stop, span.front, wanted);
+        let expected = here.expected;
+        let answer = line_answer(file, at, span.stop, span.front, expected);
         let step = step_of(n, here, answer);
         at = span.next;
         line += 1;

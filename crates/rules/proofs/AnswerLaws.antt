@@ -5,9 +5,9 @@ use mathlib.Core.Bool.{Bool, true, false, cond, not, _&&_, _||_, true≢false, f
 use mathlib.Core.List.{List, [], _∷_, map}
 use mathlib.Core.Path.{_≡_, refl, sym, ap, _∙_}
 use lib.Dec.{eqb, ltb, leb}
-use Rattle.rules.specs.Text.{between}
+use Rattle.rules.specs.Text.{between, linesOf}
 use Rattle.rules.specs.Line.{lineAnswer}
-use Rattle.rules.specs.Reading.{titleStep, libraryStep, libraryEndStep, headerStep, closingStep, entryStep, externalStep, parameterStep, subStep, stepOf, stepAt, isHeader, atEnd, onward, readFrom, readingOf, atStart, insideModule, titleHeader, enterSection, leaveSection, wantRecords, want, recordDone, countEntry, countExternal, leaveModule, Module}
+use Rattle.rules.specs.Reading.{titleStep, libraryStep, libraryEndStep, headerStep, closingStep, entryStep, externalStep, parameterStep, subStep, stepOf, stepAt, isHeader, atEnd, readingOf, atStart, insideModule, titleHeader, enterSection, leaveSection, expectRecords, expect, recordDone, countEntry, countExternal, leaveModule, Module}
 use Rattle.rules.specs.State.{State}
 use Rattle.rules.specs.Placing.{placingFault, noRoom, overlaps, badArguments, outOfRange, duplicates, tableFull}
 use Rattle.rules.specs.declared.line.Header.{Header}
@@ -21,6 +21,7 @@ use Rattle.rules.specs.declared.reading.Step.the-variants.{Stop, Next, A
 use Rattle.rules.specs.declared.reading.Reading.{Reading}
 use Rattle.rules.specs.declared.reading.Reading.the-variants.{Complete, Stopped}
 use Rattle.rules.proofs.TestLaws.{cond-keeps}
+use Rattle.rules.proofs.FoldLaws.{onStep, readFrom, reading-lines}
 
 -- ---- reading
 
@@ -67,30 +68,29 @@ unfoldable pub readingNumber : Reading → Bool
 readingNumber Complete = true
 readingNumber (Stopped k n c) = between 6 8 k
 
-onward-number : (n : ℕ) (s : Step) (go : Mode → Reading)
-    → stepNumber s ≡ true → ((m : Mode) → readingNumber (go m) ≡ true) → readingNumber (onward n s go) ≡ true
-unfolding stepNumber readingNumber onward
-onward-number n (Stop k c) go h f = h
-onward-number n (Next m) go h f = f m
-onward-number n (Add m p) go h f = f m
-onward-number n (CloseModule m l) go h f = f m
-onward-number n (CloseSection m l) go h f = f m
+on-step-number : (n : ℕ) (s : Step) (go : Mode → Reading)
+    → stepNumber s ≡ true → ((m : Mode) → readingNumber (go m) ≡ true) → readingNumber (onStep n s go) ≡ true
+unfolding stepNumber readingNumber onStep
+on-step-number n (Stop k c) go h f = h
+on-step-number n (Next m) go h f = f m
+on-step-number n (Add m p) go h f = f m
+on-step-number n (CloseModule m l) go h f = f m
+on-step-number n (CloseSection m l) go h f = f m
 
 read-number : (n : ℕ) (m : Mode) (ls : List (List ℕ)) → readingNumber (readFrom n m ls) ≡ true
 unfolding readFrom atEnd readingNumber
 read-number n m [] =
-    cond-keeps readingNumber (isHeader (m .wanted) && not (m .object .inside || m .section .inside)) refl refl
+    cond-keeps readingNumber (isHeader (m .expected) && not (m .object .inside || m .section .inside)) refl refl
 read-number n m (l ∷ ls) =
-    onward-number
+    on-step-number
     n
     (stepAt n m l)
     (λ m′. readFrom (n + 1) m′ ls)
-    (step-number n m (lineAnswer (m .wanted) l))
+    (step-number n m (lineAnswer (m .expected) l))
     (λ m′. read-number (n + 1) m′ ls)
 
 pub reading-number : (file : List ℕ) → readingNumber (readingOf file) ≡ true
-unfolding readingOf
-reading-number file = read-number 1 atStart _
+reading-number file = rw reading-lines (read-number 1 atStart (linesOf file))
 
 -- ---- placing
 

@@ -12,13 +12,14 @@ use Rattle.rules.specs.Text.{all, isName, packName}
 use Rattle.rules.specs.State.{State, state, Word, unplaced, fresh, noWords, placedWords, isSymbol}
 use Rattle.rules.specs.Placing.{mention}
 use Rattle.rules.specs.Image.{imageOf}
-use Rattle.rules.specs.Calls.{Left, asBefore, now, holding, shutBy, CallOutcome, stopped, done, withSymbols, forceState, force, baseState, base, reset, EndOutcome, endStopped, endDone, isBroken, endState, end}
+use Rattle.rules.specs.declared.answer.CallAnswer.{CallAnswer}
+use Rattle.rules.specs.Calls.{Left, asBefore, now, holding, shutBy, Outcome, stopped, done, withSymbols, forceState, force, baseState, base, reset, EndOutcome, endStopped, endDone, isBroken, endState, end}
 use Rattle.rules.specs.History.{stateAfter}
 use Rattle.rules.proofs.BoolLaws.{cond-cases}
 
 -- ---- a property of every way that a call can end
 
-module _ (P : CallOutcome → Type 0) (s : State) where
+module _ (P : Outcome CallAnswer → Type 0) (s : State) where
   pub force-cases : (name : List ℕ)
       → ((k : ℕ) → P (stopped k))
       → (isSymbol (packName name) (s .symbols) ≡ true → P (done s))
@@ -66,9 +67,9 @@ base-refused s address =
     base-cases (λ o. (o .answer .number ≡ 0) ⊎ (o .left ≡ asBefore)) s address (λ k. inr refl) (λ _. inl refl)
 
 pub end-refused : (s : State) (out : List ℕ)
-    → (end (holding s) out .answer .number ≡ 0) ⊎ ((end (holding s) out .left ≡ asBefore) × (end (holding s) out .output ≡ out))
+    → (end (holding s) out .call .answer .number ≡ 0) ⊎ ((end (holding s) out .call .left ≡ asBefore) × (end (holding s) out .output ≡ out))
 end-refused s out =
-    end-cases (λ o. (o .answer .number ≡ 0) ⊎ ((o .left ≡ asBefore) × (o .output ≡ out))) s out (λ k. inr (refl, refl)) (λ _. inl refl)
+    end-cases (λ o. (o .call .answer .number ≡ 0) ⊎ ((o .call .left ≡ asBefore) × (o .output ≡ out))) s out (λ k. inr (refl, refl)) (λ _. inl refl)
 
 -- ---- words
 
@@ -80,9 +81,9 @@ pub base-words : (s : State) (address : ℕ) → stateAfter s (base (holding s) 
 unfolding stateAfter
 base-words s address = base-cases (λ o. stateAfter s (o .left) .words ≡ s .words) s address (λ k. refl) (λ _. refl)
 
-pub end-words : (s : State) (out : List ℕ) → stateAfter s (end (holding s) out .left) .words ≡ s .words
+pub end-words : (s : State) (out : List ℕ) → stateAfter s (end (holding s) out .call .left) .words ≡ s .words
 unfolding stateAfter
-end-words s out = end-cases (λ o. stateAfter s (o .left) .words ≡ s .words) s out (λ k. refl) (λ _. refl)
+end-words s out = end-cases (λ o. stateAfter s (o .call .left) .words ≡ s .words) s out (λ k. refl) (λ _. refl)
 
 -- ---- the fresh state
 

@@ -10,10 +10,11 @@ use lib.Dec.{ltb}
 use borrow.Author.Tests.{ltb-true, lt-ltb}
 use Rattle.rules.specs.Text.{all}
 use Rattle.rules.specs.State.{Symbol, Word, unplaced, plain, refers, isPlaced, placedWords}
-use Rattle.rules.specs.Placing.{Code, linked, putAll, clash}
+use Rattle.rules.specs.Placing.{Code, linked, putAll}
 use Rattle.rules.specs.declared.line.Relocation.{Relocation}
 use Rattle.rules.specs.declared.line.Relocation.the-variants.{Plain, External, Unread}
 use Rattle.rules.proofs.TestLaws.{or-left, or-right, all-first, all-rest}
+use Rattle.rules.proofs.OverlapLaws.{clash, below}
 
 -- one word more
 count-set : (ws : List Word) (i : ℕ) (w : Word)
@@ -43,10 +44,6 @@ same-place : (ws vs : List Word) (i : ℕ)
     → map isPlaced ws ≡ map isPlaced vs → isPlaced (getD ws i unplaced) ≡ isPlaced (getD vs i unplaced)
 same-place ws vs i e =
     sym (List·getD-map isPlaced ws i unplaced) ∙ ap (λ l. getD l i false) e ∙ List·getD-map isPlaced vs i unplaced
-
--- is a code word's address, from a base, below n
-unfoldable pub below : ℕ → ℕ → Code → Bool
-below base n c = ltb (base + c .address) n
 
 module _ (base : ℕ) (xs : List ℕ) (t : List Symbol) where
   put-count-from : (cs : List Code) (ws vs : List Word)

@@ -13,10 +13,10 @@ use Rattle.rules.specs.Text.{any, all}
 use Rattle.rules.specs.Reading.{Module, Item, section, itemsOf}
 use Rattle.rules.specs.State.{Symbol, State, isDefined, isUndefined, differentNames, soundSymbol, sound}
 use Rattle.rules.specs.Placing.{joined, placed, twice}
-use Rattle.rules.specs.Search.{Places, nowhere, with}
-use Rattle.rules.specs.Load.{Walk, walking, accepted, place, entryNames, wanted, wants, searched, sectionNames, progress, walkItem, walkItems, walkFrom}
+use Rattle.rules.specs.Search.{ModuleSet, noModules, withModule}
+use Rattle.rules.specs.Load.{Walk, walking, accepted, place, entryNames, isNeeded, takes, searched, sectionNames, progress, walkItem, walkItems, walkFrom}
 use Rattle.rules.specs.Calls.{holding, load}
-use Rattle.rules.specs.Demand.{everywhere, isEntry, isExternal, entryOf, externalOf, Sufficient, Contains, OneMore, SameSet, LeastSufficient}
+use Rattle.rules.specs.Demand.{allModules, isEntry, isExternal, entryOf, externalOf, Sufficient, Contains, OneMore, SameSet, LeastSufficient}
 use Rattle.rules.proofs.BoolLaws.{never, or-on, or-off, or-left-comm, and-on, eqb-same, any-at, any-in}
 use Rattle.rules.proofs.SearchLaws.{search-keeps, search-settled}
 use Rattle.rules.proofs.TableLaws.{not-both, defined-joined, undefined-joined, different-joined}
@@ -25,15 +25,15 @@ use Rattle.rules.proofs.SectionLaws.{as-in, some-at, some-here, some-in
 
 -- ---- what every taking keeps: the table now, from the table before the section and the modules taken
 
-record Holds (table : List Symbol) (ms : List Module) (t : Places) (now : List Symbol) : Type 0 where
+record Holds (table : List Symbol) (ms : List Module) (t : ModuleSet) (now : List Symbol) : Type 0 where
   different : differentNames now ≡ true
   defined : (x : ℕ) → isDefined x now ≡ (isDefined x table || entryOf x t ms)
   undefined : (x : ℕ) → isUndefined x now ≡ ((isUndefined x table || externalOf x t ms) && not (isDefined x now))
-  contained : (set : Places) → Sufficient table ms set → Contains ms set t
+  contained : (set : ModuleSet) → Sufficient table ms set → Contains ms set t
 
 module _ (table : List Symbol) (ms : List Module) where
-  holds-start : differentNames table ≡ true → Holds table ms nowhere table
-  unfolding Contains nowhere
+  holds-start : differentNames table ≡ true → Holds table ms noModules table
+  unfolding Contains noModules
   holds-start h =
       record {
         different = h;
@@ -49,16 +49,16 @@ module _ (table : List Symbol) (ms : List Module) where
       go false d q = refl
 
   -- a module m at place i, taken when the table is now
-  module _ (i : ℕ) (m : Module) (stands : getElem? ms i ≡ some m) (t : Places) (now : List Symbol)
+  module _ (i : ℕ) (m : Module) (stands : getElem? ms i ≡ some m) (t : ModuleSet) (now : List Symbol)
       (h : Holds table ms t now) where
-    step-defined : (base x : ℕ) → isDefined x (joined base m now) ≡ (isDefined x table || entryOf x (with i t) ms)
+    step-defined : (base x : ℕ) → isDefined x (joined base m now) ≡ (isDefined x table || entryOf x (withModule i t) ms)
     step-defined base x =
         rw (defined-joined, h .defined x, some-with (isEntry x) ms i m t stands)
         (or-left-comm (isEntry x m) (isDefined x table) (entryOf x t ms))
 
     step-undefined : (base x : ℕ) →
         isUndefined x (joined base m now)
-        ≡ ((isUndefined x table || externalOf x (with i t) ms) && not (isDefined x (joined base m now)))
+        ≡ ((isUndefined x table || externalOf x (withModule i t) ms) && not (isDefined x (joined base m now)))
     step-undefined base x =
         let joins = undefined-joined base m now x (h .different) in
         rw (joins, defined-joined, h .undefined x, some-with (isExternal x) ms i m t stands)
@@ -72,18 +72,18 @@ module _ (table : List Symbol) (ms : List Module) where
 
     -- where an entry of it is undefined, a sufficient set has the module
     undefined-in : twice (sectionNames ms) ≡ false → (x : ℕ) → isEntry x m ≡ true → isUndefined x now ≡ true →
-        (set : Places) → Sufficient table ms set → set i ≡ true
-    unfolding Sufficient everywhere
+        (set : ModuleSet) → Sufficient table ms set → set i ≡ true
+    unfolding Sufficient allModules
     undefined-in once x entry u set enough =
         let open-now = sym (h .undefined x) ∙ u in
         let asked = and-on (isUndefined x table || externalOf x t ms) (not (isDefined x now)) open-now in
         let not-now = sym (h .defined x) ∙ not-true (isDefined x now) (asked .1) in
         let new = or-off (isDefined x table) (entryOf x t ms) not-now in
         let larger = some-larger (isExternal x) ms set t (h .contained set enough) in
-        let known = some-here (isEntry x) ms everywhere i m stands refl entry in
+        let known = some-here (isEntry x) ms allModules i m stands refl entry in
         let open-there = or-more (isUndefined x table) (externalOf x t ms) (externalOf x set ms) larger (asked .0) in
         let answered = enough x open-there in
-        let found = unless (entryOf x set ms) (isDefined x table) (entryOf x everywhere ms) answered (new .0) known in
+        let found = unless (entryOf x set ms) (isDefined x table) (entryOf x allModules ms) answered (new .0) known in
         let one = some-in (isEntry x) ms set found in
         rw (alone x ms once i (one .place) m (one .one) stands (one .stands) entry (one .passes)) (one .belongs)
       where
@@ -98,7 +98,7 @@ module _ (table : List Symbol) (ms : List Module) where
         unless false false false e p q = q
 
     wanted-in : twice (sectionNames ms) ≡ false → any (λ x. isUndefined x now) (entryNames m) ≡ true →
-        (set : Places) → Sufficient table ms set → set i ≡ true
+        (set : ModuleSet) → Sufficient table ms set → set i ≡ true
     unfolding isEntry
     wanted-in once wish =
         let w = any-in (λ x. isUndefined x now) (entryNames m) wish in
@@ -106,8 +106,8 @@ module _ (table : List Symbol) (ms : List Module) where
         undefined-in once x (any-at (eqb x) (entryNames m) (w .0) x (w .2) (eqb-same x)) (w .3)
 
     holds-step : twice (sectionNames ms) ≡ false → any (λ x. isUndefined x now) (entryNames m) ≡ true → (base : ℕ) →
-        Holds table ms (with i t) (joined base m now)
-    unfolding Contains with
+        Holds table ms (withModule i t) (joined base m now)
+    unfolding Contains withModule
     holds-step once wish base =
         record {
           different = different-joined base m now (h .different);
@@ -120,7 +120,7 @@ module _ (table : List Symbol) (ms : List Module) where
               (or-on (eqb i j) (t j) e);
         }
 
--- ---- small steps: Booleans, what is wanted, and two sets
+-- ---- small steps: Booleans, what is needed, and two sets
 
 or-not : (a b : Bool) → (a || not b) ≡ true → b ≡ true → a ≡ true
 or-not true b e q = refl
@@ -134,25 +134,25 @@ unless-not false false true f = f refl refl refl
 unless-not false false false f = refl
 
 undefined-wants : (v : Walk) (m : Module) (x : ℕ) → accepted v ≡ true → isUndefined x (v .state .symbols) ≡ true →
-    isEntry x m ≡ true → wants v m ≡ true
-unfolding wants wanted isEntry
+    isEntry x m ≡ true → takes v m ≡ true
+unfolding takes isNeeded isEntry
 undefined-wants v m x a u e =
     let w = any-in (eqb x) (entryNames m) e in
     let here = rw (eqb-true x (w .1) (w .3)) at u in
     rw a (any-at (λ y. isUndefined y (v .state .symbols)) (entryNames m) (w .0) (w .1) (w .2) here)
 
 -- of two sets, one within the other and not the same, the larger has a place more
-abbrev SameOn : Places → Places → ℕ → Type 0
+abbrev SameOn : ModuleSet → ModuleSet → ℕ → Type 0
 SameOn a b n = (i : ℕ) → i < n → a i ≡ b i
 
-same-at : (a b : Places) (n : ℕ) → SameOn a b n → a n ≡ b n → SameOn a b (suc n)
+same-at : (a b : ModuleSet) (n : ℕ) → SameOn a b n → a n ≡ b n → SameOn a b (suc n)
 same-at a b n h e i l = go (eqb i n) refl
   where
     go : (t : Bool) → eqb i n ≡ t → a i ≡ b i
     go true q = rw (eqb-true i n q) e
     go false q = h i (omega (arith, eqb-false i n q))
 
-one-more : (big small : Places) (n : ℕ) → ((i : ℕ) → i < n → small i ≡ true → big i ≡ true) → ¬ SameOn big small n →
+one-more : (big small : ModuleSet) (n : ℕ) → ((i : ℕ) → i < n → small i ≡ true → big i ≡ true) → ¬ SameOn big small n →
     (i : ℕ) × (i < n) × (big i ≡ true) × (small i ≡ false)
 one-more big small zero c other = absurd (other (λ i l. absurd (omega arith)))
 one-more big small (suc n) c other = go (big n) (small n) refl refl (one-more big small n (λ i l. c i (omega arith)))
@@ -175,29 +175,29 @@ module _ (ms : List Module) (w : Walk) (once : twice (sectionNames ms) ≡ false
     (different : differentNames (w .state .symbols) ≡ true) (well : accepted (searched ms w .now) ≡ true) where
   -- the invariant at the end of the search
   section-holds : Holds (w .state .symbols) ms (searched ms w .taken) (searched ms w .now .state .symbols)
-  unfolding searched wants wanted placed
+  unfolding searched takes isNeeded placed
   section-holds =
       let table = w .state .symbols in
-      search-keeps wants place (λ t v. accepted v ≡ true → Holds table ms t (v .state .symbols)) ms w
+      search-keeps takes place (λ t v. accepted v ≡ true → Holds table ms t (v .state .symbols)) ms w
       (λ i m t v e _ wish ih h.
       let before = ih (place-accepted v m h) in
-      let undefined = and-on (accepted v) (wanted (v .state) m) wish .1 in
+      let undefined = and-on (accepted v) (isNeeded (v .state) m) wish .1 in
       rw (place-placed v m h) (holds-step table ms i m e t (v .state .symbols) before once undefined (v .state .next)))
       (λ _. holds-start table ms different)
       well
 
-  -- a module that has an undefined name as an entry is taken, for at the end nothing more is wanted
+  -- a module that has an undefined name as an entry is taken, for at the end nothing more is needed
   section-settled : (x : ℕ) → isUndefined x (searched ms w .now .state .symbols) ≡ true →
-      entryOf x everywhere ms ≡ true →
+      entryOf x allModules ms ≡ true →
       entryOf x (searched ms w .taken) ms ≡ true
   unfolding searched
   section-settled x u e =
       let f = searched ms w in
-      let one = some-in (isEntry x) ms everywhere e in
+      let one = some-in (isEntry x) ms allModules e in
       some-at (isEntry x) ms (f .taken)
       (as-in (isEntry x) ms (f .taken) one
-      (or-not (f .taken (one .place)) (wants (f .now) (one .one))
-      (search-settled wants place ms w (one .place) (one .one) (one .stands))
+      (or-not (f .taken (one .place)) (takes (f .now) (one .one))
+      (search-settled takes place ms w (one .place) (one .one) (one .stands))
       (undefined-wants (f .now) (one .one) x well u (one .passes))))
 
   -- "The modules taken there are a sufficient set"
@@ -205,7 +205,7 @@ module _ (ms : List Module) (w : Walk) (once : twice (sectionNames ms) ≡ false
   unfolding Sufficient
   section-sufficient x asked =
       let h = section-holds in
-      unless-not (entryOf x (searched ms w .taken) ms) (isDefined x (w .state .symbols)) (entryOf x everywhere ms)
+      unless-not (entryOf x (searched ms w .taken) ms) (isDefined x (w .state .symbols)) (entryOf x allModules ms)
       (λ a b. section-settled x (rw (h .undefined x, asked, h .defined x, a, b)))
 
   -- "and every other sufficient set contains them all and at least one more"

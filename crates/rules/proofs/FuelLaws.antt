@@ -8,7 +8,7 @@ use mathlib.Core.Path.{_≡_, refl, ap}
 use lib.ListN.{length}
 use lib.Dec.{eqb}
 use borrow.Author.Tests.{eqb-false}
-use Rattle.rules.specs.Search.{Places, Found, found, roundMore, round, rounds}
+use Rattle.rules.specs.Search.{ModuleSet, Found, found, roundMore, round, rounds}
 use Rattle.rules.proofs.SearchLaws.{count, count-most, round-took}
 
 -- after a round that took n, the end or more rounds
@@ -20,26 +20,26 @@ more-same {X} n end {p} {q} f = go (eqb n 0) refl
     go true e = refl
     go false e = ap roundMore (f (eqb-false n 0 e))
 
-module _ {M X : Type 0} (wants : X → M → Bool) (place : X → M → X) (ms : List M) where
+module _ {M X : Type 0} (takes : X → M → Bool) (place : X → M → X) (ms : List M) where
   -- a round of fuel for each module that is not taken, and one more, is enough
-  rounds-enough : (fuel : ℕ) (t : Places) (x : X) → length ms < fuel + count t (length ms) →
-      rounds wants place fuel ms t x ≡ rounds wants place (suc fuel) ms t x
+  rounds-enough : (fuel : ℕ) (t : ModuleSet) (x : X) → length ms < fuel + count t (length ms) →
+      rounds takes place fuel ms t x ≡ rounds takes place (suc fuel) ms t x
   unfolding rounds
   rounds-enough zero t x h = absurd (omega (arith, count-most t (length ms)))
   rounds-enough (suc fuel) t x h =
-      let r = round wants place ms t x in
+      let r = round takes place ms t x in
       more-same (r .took) (found (r .taken) 1 (r .now))
-      (λ n. rounds-enough fuel (r .taken) (r .now) (omega (arith, n, round-took wants place ms t x)))
+      (λ n. rounds-enough fuel (r .taken) (r .now) (omega (arith, n, round-took takes place ms t x)))
 
   -- all rounds from where the modules t are taken
-  abbrev pub roundsFrom : Places → X → Found X
-  roundsFrom t x = rounds wants place (suc (length ms)) ms t x
+  abbrev pub roundsFrom : ModuleSet → X → Found X
+  roundsFrom t x = rounds takes place (suc (length ms)) ms t x
 
-  pub rounds-turn : (t : Places) (x : X) →
-      let r = round wants place ms t x in
+  pub rounds-turn : (t : ModuleSet) (x : X) →
+      let r = round takes place ms t x in
       roundsFrom t x ≡ cond (eqb (r .took) 0) (found (r .taken) 1 (r .now)) (roundMore (roundsFrom (r .taken) (r .now)))
   unfolding rounds
   rounds-turn t x =
-      let r = round wants place ms t x in
+      let r = round takes place ms t x in
       more-same (r .took) (found (r .taken) 1 (r .now))
-      (λ n. rounds-enough (length ms) (r .taken) (r .now) (omega (arith, n, round-took wants place ms t x)))
+      (λ n. rounds-enough (length ms) (r .taken) (r .now) (omega (arith, n, round-took takes place ms t x)))

@@ -13,8 +13,8 @@ use Rattle.rules.specs.Text.{all, between}
 use Rattle.rules.specs.Reading.{Module, Item, free, section, itemsOf}
 use Rattle.rules.specs.State.{State, Word, fresh, broken, marked, placedWords}
 use Rattle.rules.specs.Placing.{codeCount, placed, twice}
-use Rattle.rules.specs.Search.{Places, nowhere, with}
-use Rattle.rules.specs.Load.{Walk, walking, refusedAt, accepted, place, wants, searched, sectionNames, testSection, Progress, progress, walkItem, walkItems}
+use Rattle.rules.specs.Search.{ModuleSet, noModules, withModule}
+use Rattle.rules.specs.Load.{Walk, refusal, walk, walking, accepted, place, takes, searched, sectionNames, testSection, Progress, progress, walkItem, walkItems}
 use Rattle.rules.specs.Calls.{holding, load, reset, asBefore, now}
 use Rattle.rules.specs.History.{Call, loading, forcing, basing, resetting, ending, stateAfter, called, calledAll, chosen, placedBy, placedFrom, codeCounts, countPlaced, countSince}
 use Rattle.rules.proofs.TestLaws.{Every, every-found, between-low}
@@ -29,15 +29,15 @@ use Rattle.rules.proofs.WalkLaws.{place-accepted, place-placed, items-a
 -- ---- the modules of a set
 
 -- a place ahead of the list changes nothing
-chosen-ahead : (t : Places) (i k : ℕ) (ms : List Module) → i < k → chosen (with i t) k ms ≡ chosen t k ms
-unfolding chosen with
+chosen-ahead : (t : ModuleSet) (i k : ℕ) (ms : List Module) → i < k → chosen (withModule i t) k ms ≡ chosen t k ms
+unfolding chosen withModule
 chosen-ahead t i k [] h = refl
 chosen-ahead t i k (m ∷ ms) h = rw (ne-eqb i k (omega arith), chosen-ahead t i (k + 1) ms (omega arith))
 
 -- one module more adds its counts
-chosen-with : (t : Places) (i k j : ℕ) (ms : List Module) (m : Module)
-    → i ≡ k + j → getElem? ms j ≡ some m → t i ≡ false → codeCounts (chosen (with i t) k ms) ≡ codeCounts (chosen t k ms) + codeCount m
-unfolding chosen with codeCounts
+chosen-with : (t : ModuleSet) (i k j : ℕ) (ms : List Module) (m : Module)
+    → i ≡ k + j → getElem? ms j ≡ some m → t i ≡ false → codeCounts (chosen (withModule i t) k ms) ≡ codeCounts (chosen t k ms) + codeCount m
+unfolding chosen withModule codeCounts
 chosen-with t i k j [] m e g u = never-none g
 chosen-with t i k zero (x ∷ ms) m e g u =
     let here : i ≡ k = omega arith in
@@ -49,14 +49,14 @@ chosen-with t i k (suc j) (x ∷ ms) m e g u =
     rw (ne-eqb i k (omega arith)) (go (t k) rest)
   where
     go : (b : Bool)
-        → codeCounts (chosen (with i t) (k + 1) ms) ≡ codeCounts (chosen t (k + 1) ms) + codeCount m
-        → codeCounts (cond b (x ∷ chosen (with i t) (k + 1) ms) (chosen (with i t) (k + 1) ms))
+        → codeCounts (chosen (withModule i t) (k + 1) ms) ≡ codeCounts (chosen t (k + 1) ms) + codeCount m
+        → codeCounts (cond b (x ∷ chosen (withModule i t) (k + 1) ms) (chosen (withModule i t) (k + 1) ms))
         ≡ codeCounts (cond b (x ∷ chosen t (k + 1) ms) (chosen t (k + 1) ms)) + codeCount m
     go true r = omega arith
     go false r = r
 
-chosen-nowhere : (k : ℕ) (ms : List Module) → codeCounts (chosen nowhere k ms) ≡ 0
-unfolding chosen nowhere codeCounts
+chosen-nowhere : (k : ℕ) (ms : List Module) → codeCounts (chosen noModules k ms) ≡ 0
+unfolding chosen noModules codeCounts
 chosen-nowhere k [] = refl
 chosen-nowhere k (m ∷ ms) = chosen-nowhere (k + 1) ms
 
@@ -70,7 +70,7 @@ counts-append (m ∷ a) b = omega (arith, counts-append a b)
 pub test-state : (line : ℕ) (ms : List Module) (w : Walk) → testSection line ms w .state ≡ w .state
 unfolding testSection
 test-state line ms w =
-    cond-cases (λ v. v .state ≡ w .state) (accepted w && twice (sectionNames ms)) (refusedAt 13 line (w .state)) w (λ _. refl) (λ _. refl)
+    cond-cases (λ v. v .state ≡ w .state) (accepted w && twice (sectionNames ms)) (walk (refusal 13 line) (w .state)) w (λ _. refl) (λ _. refl)
 
 -- 4,096 words, of which n more are placed than before
 pub record Grown (n : ℕ) (before after : State) : Type 0 where
@@ -103,9 +103,9 @@ grown-item p (free m) g size h =
     record { size = r .size; count = omega arith }
 grown-item p (section line ms) g size h =
     search-keeps
-    wants
+    takes
     place
-    (λ (t : Places) (w : Walk). accepted w ≡ true → Grown (codeCounts (chosen t 0 ms)) (p .walk .state) (w .state))
+    (λ (t : ModuleSet) (w : Walk). accepted w ≡ true → Grown (codeCounts (chosen t 0 ms)) (p .walk .state) (w .state))
     ms
     (testSection line ms (p .walk))
     (λ i m t w e out _ ih k.

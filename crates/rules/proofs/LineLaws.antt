@@ -1,4 +1,4 @@
--- Laws of lines (specs/Line.antt): which answers a line can give, by what was wanted of it, and within which bounds.
+-- Laws of lines (specs/Line.antt): which answers a line can give, by what was expected of it, and within which bounds.
 use Prim.Native.Nat.{ℕ, zero, suc, _+_, _^_, _<_, _≤_}
 use mathlib.Core.Bool.{Bool, true, false, cond, _&&_, _||_}
 use mathlib.Core.List.{List, [], _∷_, _++_}
@@ -8,8 +8,8 @@ use native.Mathlib.Omega.{arith}
 use lib.ListN.{length, getD}
 use lib.Dec.{eqb, leb, ltb}
 use borrow.Author.Tests.{leb-true, le-leb, lt-ltb, ltb-true, eqb-false}
-use Rattle.rules.specs.Text.{Field, fieldsOf, numberOf, nameOf, between, isPacked}
-use Rattle.rules.specs.Line.{nth, Row, headers, rowIn, rowOf, Held, value, wrong, held, inBounds, readField, Fitted, fits, misfit, inFront, fit, said, sayHeader, rowAt, firstText, headerLine, sameText, markerOf, wordOf, relocationOf, starred, codeLine, isOne, textAt, entryLine, fieldsSay, lineOf, faultWithin, testBytes, lineAnswer}
+use Rattle.rules.specs.Text.{Field, fieldsOf, numberOf, nameOf, between, isPacked, sameText}
+use Rattle.rules.specs.Line.{nth, Row, headers, rowIn, rowOf, Held, value, wrong, held, inBounds, readField, Fitted, fits, misfit, inFront, fit, Shape, said, readAs, headerShape, sayHeader, rowAt, firstText, headerLine, markerOf, wordOf, relocationOf, Record, linkedCode, plainCode, relocatedEntry, absoluteEntry, recordShape, starred, readRecord, codeLine, isOne, textAt, entryLine, fieldsSay, lineOf, faultWithin, testBytes, lineAnswer}
 use Rattle.rules.specs.declared.line.FaultKind.{FaultKind}
 use Rattle.rules.specs.declared.line.FaultKind.the-variants.{BadMarker, BadNumber, BadName}
 use Rattle.rules.specs.declared.line.Fault.{Fault}
@@ -21,11 +21,12 @@ use Rattle.rules.specs.declared.line.CodeWord.{CodeWord}
 use Rattle.rules.specs.declared.line.Entry.{Entry}
 use Rattle.rules.specs.declared.line.Header.{Header}
 use Rattle.rules.specs.declared.line.Header.the-variants.{CodeBlock, EndBlock, TitleBlock, EntryBlock, ExternalBlock, LibraryStart, LibraryEnd, DataBlock, InitBlock, ParameterBlock}
-use Rattle.rules.specs.declared.line.Wanted.{Wanted}
-use Rattle.rules.specs.declared.line.Wanted.the-variants.{AnyHeader, OpeningTitle, ClosingTitle, CodeRecord, EntryRecord, ExternalRecord, DataRecord, InitRecord, ParameterRecord, SubRecord}
+use Rattle.rules.specs.declared.line.Expected.{Expected}
+use Rattle.rules.specs.declared.line.Expected.the-variants.{AnyHeader, OpeningTitle, ClosingTitle, CodeRecord, EntryRecord, ExternalRecord, DataRecord, InitRecord, ParameterRecord, SubRecord}
 use Rattle.rules.specs.declared.line.LineAnswer.{LineAnswer}
 use Rattle.rules.specs.declared.line.LineAnswer.the-variants.{Bad, Blank, Head, Opening, Closing, Code, Entered, Mentioned, Ignored, Parameter, Sub}
 use Rattle.rules.proofs.TestLaws.{and-intro, and-left, and-right, between-intro, between-low, between-high}
+use Rattle.rules.proofs.BoolLaws.{cond-cases}
 use Rattle.rules.proofs.NameLaws.{name-legal}
 
 -- ---- the tests
@@ -67,50 +68,50 @@ legalAnswer Ignored = true
 legalAnswer (Parameter size) = leb size 7
 legalAnswer Sub = true
 
--- what can be wanted, numbered
-unfoldable pub wantedNumber : Wanted → ℕ
-wantedNumber AnyHeader = 0
-wantedNumber OpeningTitle = 1
-wantedNumber ClosingTitle = 2
-wantedNumber CodeRecord = 3
-wantedNumber EntryRecord = 4
-wantedNumber ExternalRecord = 5
-wantedNumber DataRecord = 6
-wantedNumber InitRecord = 7
-wantedNumber ParameterRecord = 8
-wantedNumber SubRecord = 9
+-- what can be expected, numbered
+unfoldable pub expectedNumber : Expected → ℕ
+expectedNumber AnyHeader = 0
+expectedNumber OpeningTitle = 1
+expectedNumber ClosingTitle = 2
+expectedNumber CodeRecord = 3
+expectedNumber EntryRecord = 4
+expectedNumber ExternalRecord = 5
+expectedNumber DataRecord = 6
+expectedNumber InitRecord = 7
+expectedNumber ParameterRecord = 8
+expectedNumber SubRecord = 9
 
-unfoldable pub isWanted : Wanted → Wanted → Bool
-isWanted v w = eqb (wantedNumber v) (wantedNumber w)
+unfoldable pub isExpected : Expected → Expected → Bool
+isExpected v w = eqb (expectedNumber v) (expectedNumber w)
 
--- which answers can come where w is wanted
-unfoldable pub fitsWanted : Wanted → LineAnswer → Bool
-fitsWanted w (Bad f) = true
-fitsWanted w Blank = true
-fitsWanted w (Head h) = isWanted AnyHeader w
-fitsWanted w (Opening t) = isWanted OpeningTitle w
-fitsWanted w (Closing t) = isWanted ClosingTitle w
-fitsWanted w (Code c) = isWanted CodeRecord w
-fitsWanted w (Entered e) = isWanted EntryRecord w
-fitsWanted w (Mentioned x) = isWanted ExternalRecord w
-fitsWanted w Ignored = isWanted DataRecord w || isWanted InitRecord w
-fitsWanted w (Parameter size) = isWanted ParameterRecord w
-fitsWanted w Sub = isWanted SubRecord w
+-- which answers can come where w is expected
+unfoldable pub fitsExpected : Expected → LineAnswer → Bool
+fitsExpected w (Bad f) = true
+fitsExpected w Blank = true
+fitsExpected w (Head h) = isExpected AnyHeader w
+fitsExpected w (Opening t) = isExpected OpeningTitle w
+fitsExpected w (Closing t) = isExpected ClosingTitle w
+fitsExpected w (Code c) = isExpected CodeRecord w
+fitsExpected w (Entered e) = isExpected EntryRecord w
+fitsExpected w (Mentioned x) = isExpected ExternalRecord w
+fitsExpected w Ignored = isExpected DataRecord w || isExpected InitRecord w
+fitsExpected w (Parameter size) = isExpected ParameterRecord w
+fitsExpected w Sub = isExpected SubRecord w
 
--- both at once, to be taken apart by cases: the answers that a line can give where w is wanted
-pub data Told : Wanted → LineAnswer → Type 0 where
-  bad : {w : Wanted} {f : Fault} → Told w (Bad f)
-  blank : {w : Wanted} → Told w Blank
-  head : {h : Header} → legalHeader h ≡ true → Told AnyHeader (Head h)
-  opening : {t : ℕ} → isPacked t ≡ true → Told OpeningTitle (Opening t)
-  closing : {t : ℕ} → isPacked t ≡ true → Told ClosingTitle (Closing t)
-  coded : {c : CodeWord} → legalWord c ≡ true → Told CodeRecord (Code c)
-  entered : {e : Entry} → legalEntry e ≡ true → Told EntryRecord (Entered e)
-  mentioned : {x : ℕ} → isPacked x ≡ true → Told ExternalRecord (Mentioned x)
-  dataRead : Told DataRecord Ignored
-  initRead : Told InitRecord Ignored
-  parameter : {size : ℕ} → leb size 7 ≡ true → Told ParameterRecord (Parameter size)
-  sub : Told SubRecord Sub
+-- both at once, to be taken apart by cases: the answers that a line can give where w is expected
+pub data CanSay : Expected → LineAnswer → Type 0 where
+  bad : {w : Expected} {f : Fault} → CanSay w (Bad f)
+  blank : {w : Expected} → CanSay w Blank
+  head : {h : Header} → legalHeader h ≡ true → CanSay AnyHeader (Head h)
+  opening : {t : ℕ} → isPacked t ≡ true → CanSay OpeningTitle (Opening t)
+  closing : {t : ℕ} → isPacked t ≡ true → CanSay ClosingTitle (Closing t)
+  coded : {c : CodeWord} → legalWord c ≡ true → CanSay CodeRecord (Code c)
+  entered : {e : Entry} → legalEntry e ≡ true → CanSay EntryRecord (Entered e)
+  mentioned : {x : ℕ} → isPacked x ≡ true → CanSay ExternalRecord (Mentioned x)
+  dataRead : CanSay DataRecord Ignored
+  initRead : CanSay InitRecord Ignored
+  parameter : {size : ℕ} → leb size 7 ≡ true → CanSay ParameterRecord (Parameter size)
+  sub : CanSay SubRecord Sub
 
 -- ---- fields
 
@@ -180,14 +181,14 @@ values (k ∷ ks) [] h i = absurd h
 values (k ∷ ks) (v ∷ vs) h zero = h .0
 values (k ∷ ks) (v ∷ vs) h (suc i) = values ks vs (h .1) i
 
--- what is said of fields that fit is told, if it is told of all values of their kinds
-said-told : (w : Wanted) (ks : List Kind) (answer : List ℕ → LineAnswer) → ((vs : List ℕ) → Values ks vs → Told w (answer vs)) →
-    (end : ℕ) (fs : List Field) → Told w (said answer (fit end ks fs))
-unfolding said
-said-told w ks answer tells end fs = go (fit end ks fs) (fit-holds end ks fs)
+-- what a line of a shape says can be said, if it can be said of all values of the shape's kinds
+shape-told : (w : Expected) (s : Shape) → ((vs : List ℕ) → Values (s .kinds) vs → CanSay w (s .says vs)) →
+    (end : ℕ) (fs : List Field) → CanSay w (readAs s end fs)
+unfolding readAs said
+shape-told w s tells end fs = go (fit end (s .kinds) fs) (fit-holds end (s .kinds) fs)
   where
-    go : (r : Fitted) → FitsIn ks r → Told w (said answer r)
-    go (fits vs) h = tells vs (values ks vs h)
+    go : (r : Fitted) → FitsIn (s .kinds) r → CanSay w (said (s .says) r)
+    go (fits vs) h = tells vs (values (s .kinds) vs h)
     go (misfit f) h = bad
 
 -- the value of a number field, as a test
@@ -236,11 +237,11 @@ unfolding rowAt rowOf
 row-at none = tt
 row-at (some c) = row-in headers-legal c
 
-say-header : (end : ℕ) (fs : List Field) (r : Option Row) → FoundLegal r → Told AnyHeader (sayHeader end fs r)
+say-header : (end : ℕ) (fs : List Field) (r : Option Row) → FoundLegal r → CanSay AnyHeader (sayHeader end fs r)
 unfolding sayHeader
 say-header end [] r h = blank
 say-header end (f ∷ fs) none h = bad
-say-header end (f ∷ fs) (some r) h = said-told AnyHeader _ (λ vs. Head (r .says vs)) (λ vs at. head (h vs at)) end (f ∷ fs)
+say-header end (f ∷ fs) (some r) h = shape-told AnyHeader (headerShape r) (λ vs at. head (h vs at)) end (f ∷ fs)
 
 -- ---- data records
 
@@ -257,56 +258,56 @@ relocation-legal type arg l b = go (eqb type 5) refl
     go false e = let other = eqb-false type 5 e in between-intro 1 4 type (l .0) (omega arith)
 
 -- a choice between two answers that can be told
-either : (w : Wanted) (t : Bool) {a b : LineAnswer} → Told w a → Told w b → Told w (cond t a b)
+either : (w : Expected) (t : Bool) {a b : LineAnswer} → CanSay w a → CanSay w b → CanSay w (cond t a b)
 either w true p q = p
 either w false p q = q
 
-code-told : (end : ℕ) (fs : List Field) → Told CodeRecord (codeLine end fs)
-unfolding codeLine legalWord legalRelocation
+code-told : (end : ℕ) (fs : List Field) → CanSay CodeRecord (codeLine end fs)
+unfolding codeLine recordShape legalWord legalRelocation
 code-told end fs =
-    either CodeRecord (starred fs)
-    (said-told CodeRecord _ _ (λ vs at. coded (and-intro (word-bound (at 1 .1) (at 2 .1) (at 3 .1) (at 4 .1)) (relocation-legal (nth vs 6) (nth vs 7) (at 6) (bounded (at 7))))) end fs)
-    (said-told CodeRecord _ _ (λ vs at. coded (and-intro (word-bound (at 0 .1) (at 1 .1) (at 2 .1) (at 3 .1)) refl)) end fs)
+    cond-cases (λ (r : Record). CanSay CodeRecord (readRecord r end fs)) (starred fs) linkedCode plainCode
+    (λ _. shape-told CodeRecord (recordShape linkedCode) (λ vs at. coded (and-intro (word-bound (at 1 .1) (at 2 .1) (at 3 .1) (at 4 .1)) (relocation-legal (nth vs 6) (nth vs 7) (at 6) (bounded (at 7))))) end fs)
+    (λ _. shape-told CodeRecord (recordShape plainCode) (λ vs at. coded (and-intro (word-bound (at 0 .1) (at 1 .1) (at 2 .1) (at 3 .1)) refl)) end fs)
 
-entry-told : (end : ℕ) (fs : List Field) → Told EntryRecord (entryLine end fs)
-unfolding entryLine legalEntry
+entry-told : (end : ℕ) (fs : List Field) → CanSay EntryRecord (entryLine end fs)
+unfolding entryLine recordShape legalEntry
 entry-told end fs =
-    either EntryRecord (isOne (numberOf (textAt fs 2)))
-    (said-told EntryRecord _ _ (λ vs at. entered (and-intro (at 0) (and-intro (bounded (at 1)) (bounded (at 3))))) end fs)
-    (said-told EntryRecord _ _ (λ vs at. entered (and-intro (at 0) (and-intro (bounded (at 1)) refl))) end fs)
+    cond-cases (λ (r : Record). CanSay EntryRecord (readRecord r end fs)) (isOne (numberOf (textAt fs 2))) relocatedEntry absoluteEntry
+    (λ _. shape-told EntryRecord (recordShape relocatedEntry) (λ vs at. entered (and-intro (at 0) (and-intro (bounded (at 1)) (bounded (at 3))))) end fs)
+    (λ _. shape-told EntryRecord (recordShape absoluteEntry) (λ vs at. entered (and-intro (at 0) (and-intro (bounded (at 1)) refl))) end fs)
 
-fields-told : (w : Wanted) (end : ℕ) (fs : List Field) → Told w (fieldsSay w end fs)
-unfolding fieldsSay headerLine
+fields-told : (w : Expected) (end : ℕ) (fs : List Field) → CanSay w (fieldsSay w end fs)
+unfolding fieldsSay headerLine recordShape
 fields-told AnyHeader end fs = say-header end fs _ (row-at (numberOf (firstText fs)))
-fields-told OpeningTitle end fs = said-told OpeningTitle _ _ (λ vs at. opening (at 0)) end fs
-fields-told ClosingTitle end fs = said-told ClosingTitle _ _ (λ vs at. closing (at 0)) end fs
+fields-told OpeningTitle end fs = shape-told OpeningTitle _ (λ vs at. opening (at 0)) end fs
+fields-told ClosingTitle end fs = shape-told ClosingTitle _ (λ vs at. closing (at 0)) end fs
 fields-told CodeRecord end fs = code-told end fs
 fields-told EntryRecord end fs = entry-told end fs
-fields-told ExternalRecord end fs = said-told ExternalRecord _ _ (λ vs at. mentioned (at 0)) end fs
-fields-told DataRecord end fs = said-told DataRecord _ _ (λ vs at. dataRead) end fs
-fields-told InitRecord end fs = said-told InitRecord _ _ (λ vs at. initRead) end fs
-fields-told ParameterRecord end fs = said-told ParameterRecord _ _ (λ vs at. parameter (bounded (at 2))) end fs
-fields-told SubRecord end fs = said-told SubRecord _ _ (λ vs at. sub) end fs
+fields-told ExternalRecord end fs = shape-told ExternalRecord _ (λ vs at. mentioned (at 0)) end fs
+fields-told DataRecord end fs = shape-told DataRecord _ (λ vs at. dataRead) end fs
+fields-told InitRecord end fs = shape-told InitRecord _ (λ vs at. initRead) end fs
+fields-told ParameterRecord end fs = shape-told ParameterRecord _ (λ vs at. parameter (bounded (at 2))) end fs
+fields-told SubRecord end fs = shape-told SubRecord _ (λ vs at. sub) end fs
 
 -- ---- the whole line
 
-line-of : (w : Wanted) (end : ℕ) (fs : List Field) → Told w (lineOf w end fs)
+line-of : (w : Expected) (end : ℕ) (fs : List Field) → CanSay w (lineOf w end fs)
 unfolding lineOf
 line-of w end [] = blank
 line-of w end (f ∷ fs) = fields-told w end (f ∷ fs)
 
-tested : (w : Wanted) (front size : ℕ) (a : LineAnswer) → Told w a → Told w (testBytes front size a)
+tested : (w : Expected) (front size : ℕ) (a : LineAnswer) → CanSay w a → CanSay w (testBytes front size a)
 unfolding testBytes
 tested w front size a t = either w (leb size front) t (either w (faultWithin front a) t bad)
 
--- for every line, and whatever is wanted of it
-pub line-told : (w : Wanted) (line : List ℕ) → Told w (lineAnswer w line)
+-- for every line, and whatever is expected of it
+pub line-can-say : (w : Expected) (line : List ℕ) → CanSay w (lineAnswer w line)
 unfolding lineAnswer
-line-told w line = tested w _ _ _ (line-of w (length line + 1) (fieldsOf line))
+line-can-say w line = tested w _ _ _ (line-of w (length line + 1) (fieldsOf line))
 
 -- the same as tests
-pub told-tests : {w : Wanted} {a : LineAnswer} → Told w a → (fitsWanted w a && legalAnswer a) ≡ true
-unfolding fitsWanted isWanted wantedNumber legalAnswer
+pub told-tests : {w : Expected} {a : LineAnswer} → CanSay w a → (fitsExpected w a && legalAnswer a) ≡ true
+unfolding fitsExpected isExpected expectedNumber legalAnswer
 told-tests bad = refl
 told-tests blank = refl
 told-tests (head h) = h
@@ -320,11 +321,11 @@ told-tests initRead = refl
 told-tests (parameter h) = h
 told-tests sub = refl
 
-pub line-fits : (w : Wanted) (line : List ℕ) → fitsWanted w (lineAnswer w line) ≡ true
-line-fits w line = and-left _ (legalAnswer (lineAnswer w line)) (told-tests (line-told w line))
+pub line-fits : (w : Expected) (line : List ℕ) → fitsExpected w (lineAnswer w line) ≡ true
+line-fits w line = and-left _ (legalAnswer (lineAnswer w line)) (told-tests (line-can-say w line))
 
-pub line-legal : (w : Wanted) (line : List ℕ) → legalAnswer (lineAnswer w line) ≡ true
-line-legal w line = and-right (fitsWanted w (lineAnswer w line)) _ (told-tests (line-told w line))
+pub line-legal : (w : Expected) (line : List ℕ) → legalAnswer (lineAnswer w line) ≡ true
+line-legal w line = and-right (fitsExpected w (lineAnswer w line)) _ (told-tests (line-can-say w line))
 
 -- ---- what the tests mean
 

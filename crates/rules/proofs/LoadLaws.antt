@@ -11,9 +11,10 @@ use Rattle.rules.specs.Text.{between}
 use Rattle.rules.specs.Reading.{Module, Item, free, section, readingOf, itemsOf}
 use Rattle.rules.specs.State.{State, Mark, unmarked, broken, frozen, marked}
 use Rattle.rules.specs.Placing.{placingFault, placed, twice}
-use Rattle.rules.specs.Search.{Places}
-use Rattle.rules.specs.Load.{Walk, walking, refusedAt, accepted, tryPlace, place, wants, searched, sectionNames, testSection, Progress, progress, walkItem, walkItems, walkFrom, Loaded, loadRefused, walked, loadRead, loadFile}
-use Rattle.rules.specs.Calls.{Left, asBefore, now, Lent, holding, shutBy, LoadOutcome, loadStopped, loadOutcome, loadState, loadLent, load}
+use Rattle.rules.specs.Search.{ModuleSet}
+use Rattle.rules.specs.Load.{Walk, refusal, walk, walking, accepted, tryPlace, place, takes, searched, sectionNames, testSection, Progress, progress, walkItem, walkItems, walkFrom, Loaded, loaded, walked, loadRead, loadFile}
+use Rattle.rules.specs.declared.answer.LoadAnswer.{LoadAnswer}
+use Rattle.rules.specs.Calls.{Left, asBefore, now, Lent, holding, shutBy, Outcome, loadStopped, loadOutcome, loadState, loadLent, load}
 use Rattle.rules.specs.declared.reading.Reading.{Reading}
 use Rattle.rules.specs.declared.reading.Reading.the-variants.{Complete, Stopped}
 use Rattle.rules.proofs.TestLaws.{cond-keeps, between-wider}
@@ -24,27 +25,27 @@ use Rattle.rules.proofs.AnswerLaws.{readingNumber, reading-number, plac
 -- ---- the walk's number is 0 or 9 to 14
 
 walkNumber : Walk → Bool
-walkNumber w = placingNumber (w .number)
+walkNumber w = placingNumber (w .refusal .number)
 
 place-number : (w : Walk) (m : Module) → walkNumber w ≡ true → walkNumber (place w m) ≡ true
 unfolding place tryPlace walkNumber placingNumber
 place-number w m h =
     let s = w .state in
-    let tried = cond-keeps walkNumber (eqb (placingFault s m) 0) {x = walking (placed s m)} {y = refusedAt (placingFault s m) (m .line) s} refl (placing-number s m) in
+    let tried = cond-keeps walkNumber (eqb (placingFault s m) 0) {x = walking (placed s m)} {y = walk (refusal (placingFault s m) (m .line)) s} refl (placing-number s m) in
     cond-keeps walkNumber (accepted w) {x = tryPlace s m} {y = w} tried h
 
 section-number : (line : ℕ) (ms : List Module) (w : Walk) → walkNumber w ≡ true → walkNumber (testSection line ms w) ≡ true
 unfolding testSection walkNumber placingNumber
-section-number line ms w h = cond-keeps walkNumber (accepted w && twice (sectionNames ms)) {x = refusedAt 13 line (w .state)} {y = w} refl h
+section-number line ms w h = cond-keeps walkNumber (accepted w && twice (sectionNames ms)) {x = walk (refusal 13 line) (w .state)} {y = w} refl h
 
 item-number : (p : Progress) (i : Item) → walkNumber (p .walk) ≡ true → walkNumber (walkItem p i .walk) ≡ true
 unfolding walkItem searched
 item-number p (free m) h = place-number (p .walk) m h
 item-number p (section line ms) h =
     search-keeps
-    wants
+    takes
     place
-    (λ (t : Places) (w : Walk). walkNumber w ≡ true)
+    (λ (t : ModuleSet) (w : Walk). walkNumber w ≡ true)
     ms
     (testSection line ms (p .walk))
     (λ i m t w _ _ _. place-number w m)
@@ -57,7 +58,7 @@ items-number (i ∷ is) p h = items-number is (walkItem p i) (item-number p i h)
 
 -- ---- how a load ends
 
-pub data Ending (s : State) (o : LoadOutcome) : Type 0 where
+pub data Ending (s : State) (o : Outcome LoadAnswer) : Type 0 where
   done : o .answer .number ≡ 0 → Ending s o
   ahead : between 1 5 (o .answer .number) ≡ true → o .answer .line ≡ 0 → o .answer .rounds ≡ 0 → o .left ≡ asBefore → Ending s o
   forFile : between 6 14 (o .answer .number) ≡ true → o .answer .rounds ≡ 0 → o .left ≡ now (marked broken s) → Ending s o
@@ -73,10 +74,10 @@ walked-ends s p h =
     cond-cases
     (λ l. Ending s (loadOutcome l))
     (accepted (p .walk))
-    (record { number = 0; line = 0; rounds = p .rounds; state = p .walk .state })
-    (loadRefused (p .walk .number) (p .walk .line) (marked broken s))
+    (loaded (refusal 0 0) (p .rounds) (p .walk .state))
+    (loaded (p .walk .refusal) 0 (marked broken s))
     (λ e. done refl)
-    (λ e. forFile (refused-number (p .walk .number) h e) refl refl)
+    (λ e. forFile (refused-number (p .walk .refusal .number) h e) refl refl)
 
 read-ends : (s : State) (file : List ℕ) (r : Reading) → readingNumber r ≡ true → Ending s (loadOutcome (loadRead s file r))
 unfolding loadRead readingNumber walkNumber placingNumber

@@ -11,10 +11,11 @@ use Rattle.rules.specs.Text.{all}
 use Rattle.rules.specs.Reading.{Module}
 use Rattle.rules.specs.State.{Symbol, State, Word, placedWords}
 use Rattle.rules.specs.Placing.{Code, externals, code, moduleLength, codeCount, joined, linked, putAll, noRoom, overlaps, badArguments, outOfRange, duplicates, tableFull, placingFault, placed}
-use Rattle.rules.specs.Load.{Walk, walking, refusedAt, accepted, tryPlace, place}
+use Rattle.rules.specs.Load.{Walk, refusal, walk, walking, accepted, tryPlace, place}
 use Rattle.rules.proofs.TestLaws.{all-weaken}
 use Rattle.rules.proofs.BoolLaws.{cond-cases, never}
-use Rattle.rules.proofs.CountLaws.{below, put-count}
+use Rattle.rules.proofs.OverlapLaws.{below, clash-overlap}
+use Rattle.rules.proofs.CountLaws.{put-count}
 
 -- ---- the tests of a module that is placed
 
@@ -47,10 +48,10 @@ pub place-passed : (w : Walk) (m : Module) → accepted (place w m) ≡ true →
 unfolding place tryPlace
 place-passed w m =
     let s = w .state in
-    let tried = cond (eqb (placingFault s m) 0) (walking (placed s m)) (refusedAt (placingFault s m) (m .line) s) in
+    let tried = cond (eqb (placingFault s m) 0) (walking (placed s m)) (walk (refusal (placingFault s m) (m .line)) s) in
     cond-cases (λ v. accepted v ≡ true → Passed s m) (accepted w) tried w
     (λ _.
-    cond-cases (λ v. accepted v ≡ true → Passed s m) (eqb (placingFault s m) 0) (walking (placed s m)) (refusedAt (placingFault s m) (m .line) s)
+    cond-cases (λ v. accepted v ≡ true → Passed s m) (eqb (placingFault s m) 0) (walking (placed s m)) (walk (refusal (placingFault s m) (m .line)) s)
     (λ e _. passed s m (eqb-true (placingFault s m) 0 e))
     (λ e h. never h e))
     (λ e h. never h e)
@@ -80,6 +81,7 @@ placed-count s m size c p =
     let room : s .next + moduleLength m ≤ 4096 = ltb-false 4096 (s .next + moduleLength m) (p .room) in
     let reach : (x : Code) → ltb (x .address) (moduleLength m) ≡ true → below (s .next) (length (s .words)) x ≡ true =
     λ x h. lt-ltb (s .next + x .address) (length (s .words)) (omega (arith, ltb-true (x .address) (moduleLength m) h)) in
+    let inside = all-weaken _ (below (s .next) (length (s .words))) reach (code m) (c .within) in
     let counted =
     put-count
     (s .next)
@@ -87,6 +89,6 @@ placed-count s m size c p =
     (joined (s .next) m (s .symbols))
     (code m)
     (s .words)
-    (p .apart)
-    (all-weaken _ (below (s .next) (length (s .words))) reach (code m) (c .within)) in
+    (clash-overlap (s .next) (code m) (s .words) inside ∙ p .apart)
+    inside in
     counted ∙ ap (λ n. placedWords (s .words) + n) (c .as-many)

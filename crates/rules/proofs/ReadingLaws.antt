@@ -10,14 +10,14 @@ use lib.ListN.{length, length-append}
 use lib.Dec.{eqb, leb, ltb}
 use borrow.Author.Tests.{leb-true, leb-false, eqb-true, eqb-false, ltb-true}
 use Rattle.rules.specs.Text.{all, linesOf, isPacked}
-use Rattle.rules.specs.Reading.{mode, openBlock, openModule, openSection, atStart, want, wantRecords, recordDone, wantSubs, titleHeader, enterModule, leaveModule, enterSection, leaveSection, countEntry, countExternal, titleStep, libraryStep, libraryEndStep, headerStep, closingStep, entryStep, externalStep, parameterStep, subStep, stepOf, stepAt, isHeader, atEnd, onward, readFrom, Module, Item, free, section, moduleAt, moduleDone, gather, itemsFrom, itemsOf}
+use Rattle.rules.specs.Reading.{mode, openBlock, openModule, openSection, atStart, expect, expectRecords, recordDone, expectSubs, titleHeader, enterModule, leaveModule, enterSection, leaveSection, countEntry, countExternal, titleStep, libraryStep, libraryEndStep, headerStep, closingStep, entryStep, externalStep, parameterStep, subStep, stepOf, stepAt, isHeader, atEnd, Module, Item, free, section, moduleAt, itemsOf}
 use Rattle.rules.specs.Placing.{entriesIn, externalsIn, lengthIn, countIn, codeCount}
 use Rattle.rules.specs.declared.line.Entry.{Entry}
 use Rattle.rules.specs.declared.line.CodeWord.{CodeWord}
 use Rattle.rules.specs.declared.line.Header.{Header}
 use Rattle.rules.specs.declared.line.Header.the-variants.{CodeBlock, EndBlock, TitleBlock, EntryBlock, ExternalBlock, LibraryStart, LibraryEnd, DataBlock, InitBlock, ParameterBlock}
-use Rattle.rules.specs.declared.line.Wanted.{Wanted}
-use Rattle.rules.specs.declared.line.Wanted.the-variants.{AnyHeader, OpeningTitle, CodeRecord, EntryRecord, ExternalRecord, DataRecord, InitRecord, ParameterRecord}
+use Rattle.rules.specs.declared.line.Expected.{Expected}
+use Rattle.rules.specs.declared.line.Expected.the-variants.{AnyHeader, OpeningTitle, CodeRecord, EntryRecord, ExternalRecord, DataRecord, InitRecord, ParameterRecord}
 use Rattle.rules.specs.declared.line.LineAnswer.{LineAnswer}
 use Rattle.rules.specs.declared.reading.OpenBlock.{OpenBlock}
 use Rattle.rules.specs.declared.reading.OpenSection.{OpenSection}
@@ -29,7 +29,8 @@ use Rattle.rules.specs.declared.reading.Step.the-variants.{Stop, Next, A
 use Rattle.rules.specs.declared.reading.Reading.{Reading}
 use Rattle.rules.specs.declared.reading.Reading.the-variants.{Complete, Stopped}
 use Rattle.rules.proofs.TestLaws.{Every, every-add, every-all, and-intro, and-left, and-right}
-use Rattle.rules.proofs.LineLaws.{legalHeader, legalEntry, legalWord, isWanted, wantedNumber, Told, bad, blank, head, opening, closing, coded, entered, mentioned, dataRead, initRead, parameter, sub, line-told}
+use Rattle.rules.proofs.LineLaws.{legalHeader, legalEntry, legalWord, isExpected, expectedNumber, CanSay, bad, blank, head, opening, closing, coded, entered, mentioned, dataRead, initRead, parameter, sub, line-can-say}
+use Rattle.rules.proofs.FoldLaws.{onStep, readFrom, closed, gather, itemsFrom, items-lines}
 use Rattle.rules.proofs.PartLaws.{legalPart, entries-append, externals-append, length-in-append, count-append, PartsSound, no-parts, add-entry, add-external, add-block, add-word}
 
 -- ---- sound modules and items
@@ -69,8 +70,8 @@ pub record Ahead (ps : List Part) (offset count remaining c : ℕ) : Type 0 wher
   pub fits : offset + count ≤ lengthIn ps
 
 -- a line of a module other than its title and its code records
-unfoldable pub idle : Wanted → Bool
-idle w = not (isWanted OpeningTitle w || isWanted CodeRecord w)
+unfoldable pub idle : Expected → Bool
+idle w = not (isExpected OpeningTitle w || isExpected CodeRecord w)
 
 -- in no module
 abbrev pub restIn : OpenSection → Mode
@@ -90,7 +91,7 @@ pub data Stands : Mode → List Part → List Module → Type 0 where
       → InSection 1 s ms → Within ps n x c → Ahead ps offset count remaining c
       → Stands (mode CodeRecord (openBlock offset count remaining subs) (openModule true title line n x) s) ps ms
   beforeOther :
-      {w : Wanted} {b : OpenBlock} {title line n x c : ℕ} {s : OpenSection} {ps : List Part} {ms : List Module}
+      {w : Expected} {b : OpenBlock} {title line n x c : ℕ} {s : OpenSection} {ps : List Part} {ms : List Module}
       → InSection 1 s ms → Within ps n x c → c ≡ countIn ps → idle w ≡ true
       → Stands (mode w b (openModule true title line n x) s) ps ms
 
@@ -185,7 +186,7 @@ rest-header n s (InitBlock count) = tt
 rest-header n s (ParameterBlock count) = tt
 
 rest-step :
-    (n : ℕ) {s : OpenSection} {ms : List Module} → InSection 0 s ms → {a : LineAnswer} → Told AnyHeader a
+    (n : ℕ) {s : OpenSection} {ms : List Module} → InSection 0 s ms → {a : LineAnswer} → CanSay AnyHeader a
     → After [] ms (stepOf n (restIn s) a)
 unfolding stepOf
 rest-step n s bad = tt
@@ -195,9 +196,9 @@ rest-step n s (head {h} l) = rest-header n s h
 -- ---- inside a module
 
 title-step :
-    (n : ℕ) (b : OpenBlock) (line : ℕ) {s : OpenSection} {ms : List Module} → InSection 1 s ms → {a : LineAnswer} → Told OpeningTitle a
+    (n : ℕ) (b : OpenBlock) (line : ℕ) {s : OpenSection} {ms : List Module} → InSection 1 s ms → {a : LineAnswer} → CanSay OpeningTitle a
     → After [] ms (stepOf n (mode OpeningTitle b (openModule false 0 line 0 0) s) a)
-unfolding stepOf enterModule countIn idle isWanted wantedNumber
+unfolding stepOf enterModule countIn idle isExpected expectedNumber
 title-step n b line s bad = tt
 title-step n b line s blank = beforeTitle s
 title-step n b line s (opening h) = beforeOther s no-parts-within refl refl
@@ -205,9 +206,9 @@ title-step n b line s (opening h) = beforeOther s no-parts-within refl refl
 -- the next record of a block, or a header
 records-follow :
     {n x c : ℕ} {s : OpenSection} {ps : List Part} {ms : List Module} → InSection 1 s ms → Within ps n x c → c ≡ countIn ps
-    → (w : Wanted) {b : OpenBlock} {title line : ℕ} → idle w ≡ true → (t : Bool)
+    → (w : Expected) {b : OpenBlock} {title line : ℕ} → idle w ≡ true → (t : Bool)
     → Stands (mode (cond t AnyHeader w) b (openModule true title line n x) s) ps ms
-unfolding idle isWanted wantedNumber
+unfolding idle isExpected expectedNumber
 records-follow i h known w l true = beforeOther i h known refl
 records-follow i h known w l false = beforeOther i h known l
 
@@ -239,7 +240,7 @@ module _ (title line : ℕ) {n x c : ℕ} {s : OpenSection} {ps : List Part} {ms
       (mode (cond t AnyHeader CodeRecord) (openBlock offset count (remaining - 1) 0) (openModule true title line n x) s)
       (ps ++ (WordPart (offset + (count - remaining)) w ∷ []))
       ms
-  unfolding countIn lengthIn idle isWanted wantedNumber
+  unfolding countIn lengthIn idle isExpected expectedNumber
   word-step offset count remaining g w l true e =
       let last = leb-true remaining 1 e in
       beforeOther i (within-word h (offset + (count - remaining)) w l (omega arith)) (simp count-append (omega arith)) refl
@@ -255,7 +256,7 @@ module _ (title line : ℕ) {n x c : ℕ} {s : OpenSection} {ps : List Part} {ms
       beforeCode i (within-word h (offset + (count - remaining)) w l (omega arith)) ahead
 
   code-step :
-      (k offset count remaining subs : ℕ) → Ahead ps offset count remaining c → {a : LineAnswer} → Told CodeRecord a
+      (k offset count remaining subs : ℕ) → Ahead ps offset count remaining c → {a : LineAnswer} → CanSay CodeRecord a
       → After ps ms (stepOf k (mode CodeRecord (openBlock offset count remaining subs) (openModule true title line n x) s) a)
   unfolding stepOf recordDone
   code-step k offset count remaining subs g bad = tt
@@ -270,7 +271,7 @@ module _ (title line : ℕ) {n x c : ℕ} {s : OpenSection} {ps : List Part} {ms
         (mode (cond t AnyHeader CodeRecord) (openBlock offset count count 0) (openModule true title line n x) s)
         (ps ++ (BlockPart offset count ∷ []))
         ms
-    unfolding countIn lengthIn idle isWanted wantedNumber
+    unfolding countIn lengthIn idle isExpected expectedNumber
     block-step offset count l true e =
         let none-left = eqb-true count 0 e in
         beforeOther i (within-block h offset count l) (simp count-append (omega arith)) refl
@@ -288,7 +289,7 @@ module _ (title line : ℕ) {n x c : ℕ} {s : OpenSection} {ps : List Part} {ms
     header-step :
         (k : ℕ) (b : OpenBlock) (a : Header) → legalHeader a ≡ true
         → After ps ms (headerStep k (mode AnyHeader b (openModule true title line n x) s) a)
-    unfolding headerStep wantRecords want titleStep libraryStep libraryEndStep idle isWanted wantedNumber legalHeader legalPart
+    unfolding headerStep expectRecords expect titleStep libraryStep libraryEndStep idle isExpected expectedNumber legalHeader legalPart
     header-step k b (CodeBlock count offset) l =
         block-step
         offset
@@ -307,23 +308,23 @@ module _ (title line : ℕ) {n x c : ℕ} {s : OpenSection} {ps : List Part} {ms
     header-step k b (ParameterBlock count) l = records-follow i h known ParameterRecord refl (eqb count 0)
 
     closing-step :
-        (w : Wanted) (b : OpenBlock) (t : ℕ) → After ps ms (closingStep (mode w b (openModule true title line n x) s) t)
+        (w : Expected) (b : OpenBlock) (t : ℕ) → After ps ms (closingStep (mode w b (openModule true title line n x) s) t)
     unfolding closingStep leaveModule
     closing-step w b t =
         let done : ModuleSound (moduleAt line ps) = subst (PartsSound ps) known (h .sound) in
         passed ps ms (eqb t title) _ 7 0 (λ e. (done, complete i (moduleAt line ps) done))
 
     entry-step :
-        (w : Wanted) (b : OpenBlock) (e : Entry) → legalEntry e ≡ true → After ps ms (entryStep (mode w b (openModule true title line n x) s) e)
-    unfolding entryStep countEntry recordDone countIn idle isWanted wantedNumber
+        (w : Expected) (b : OpenBlock) (e : Entry) → legalEntry e ≡ true → After ps ms (entryStep (mode w b (openModule true title line n x) s) e)
+    unfolding entryStep countEntry recordDone countIn idle isExpected expectedNumber
     entry-step w b e l =
         passed ps ms (ltb n 64) _ 8 0
         (λ t.
         records-follow i (within-entry h e l (ltb-true n 64 t)) (simp count-append (omega arith)) EntryRecord refl (leb (b .remaining) 1))
 
     external-step :
-        (w : Wanted) (b : OpenBlock) (y : ℕ) → isPacked y ≡ true → After ps ms (externalStep (mode w b (openModule true title line n x) s) y)
-    unfolding externalStep countExternal recordDone countIn idle isWanted wantedNumber
+        (w : Expected) (b : OpenBlock) (y : ℕ) → isPacked y ≡ true → After ps ms (externalStep (mode w b (openModule true title line n x) s) y)
+    unfolding externalStep countExternal recordDone countIn idle isExpected expectedNumber
     external-step w b y l =
         passed ps ms (ltb x 64) _ 8 0
         (λ t.
@@ -331,22 +332,22 @@ module _ (title line : ℕ) {n x c : ℕ} {s : OpenSection} {ps : List Part} {ms
 
     -- after a parameter record: its sub-records, or the block's next record, or a header
     subs-follow :
-        (w : Wanted) (b : OpenBlock) (size : ℕ) (t : Bool)
+        (w : Expected) (b : OpenBlock) (size : ℕ) (t : Bool)
         → Stands
         (cond
         t
         (recordDone ParameterRecord (mode w b (openModule true title line n x) s))
-        (wantSubs size (mode w b (openModule true title line n x) s)))
+        (expectSubs size (mode w b (openModule true title line n x) s)))
         ps
         ms
-    unfolding recordDone wantSubs idle isWanted wantedNumber
+    unfolding recordDone expectSubs idle isExpected expectedNumber
     subs-follow w b size true = records-follow i h known ParameterRecord refl (leb (b .remaining) 1)
     subs-follow w b size false = beforeOther i h known refl
 
     other-step :
-        (k : ℕ) (w : Wanted) (b : OpenBlock) → idle w ≡ true → {a : LineAnswer} → Told w a
+        (k : ℕ) (w : Expected) (b : OpenBlock) → idle w ≡ true → {a : LineAnswer} → CanSay w a
         → After ps ms (stepOf k (mode w b (openModule true title line n x) s) a)
-    unfolding stepOf recordDone parameterStep subStep idle isWanted wantedNumber
+    unfolding stepOf recordDone parameterStep subStep idle isExpected expectedNumber
     other-step k w b l bad = tt
     other-step k w b l blank = beforeOther i h known l
     other-step k w b l (head {h = a} g) = header-step k b a g
@@ -363,7 +364,7 @@ module _ (title line : ℕ) {n x c : ℕ} {s : OpenSection} {ps : List Part} {ms
 -- ---- every line
 
 pub step-stands :
-    (n : ℕ) {m : Mode} {ps : List Part} {ms : List Module} → Stands m ps ms → {a : LineAnswer} → Told (m .wanted) a
+    (n : ℕ) {m : Mode} {ps : List Part} {ms : List Module} → Stands m ps ms → {a : LineAnswer} → CanSay (m .expected) a
     → After ps ms (stepOf n m a)
 step-stands n (atRest i) t = rest-step n i t
 step-stands n (beforeTitle {b} {line} i) t = title-step n b line i t
@@ -377,7 +378,7 @@ start-stands = atRest outside
 -- from any mode where the reading can stand, any line leads to another, or stops the reading
 pub line-stands :
     (n : ℕ) {m : Mode} {ps : List Part} {ms : List Module} → Stands m ps ms → (l : List ℕ) → After ps ms (stepAt n m l)
-line-stands n {m} i l = step-stands n i (line-told (m .wanted) l)
+line-stands n {m} i l = step-stands n i (line-can-say (m .expected) l)
 
 -- ---- what a file holds is sound
 
@@ -385,8 +386,8 @@ module _ (go : Mode → List Part → List Module → List Item)
     (rest : (m : Mode) (ps : List Part) (ms : List Module) → Stands m ps ms → Every ItemSound (go m ps ms)) where
   module-done :
       (t : Bool) (md : Module) (m : Mode) (ms : List Module) → ModuleSound md → Stands m [] (cond t (ms ++ (md ∷ [])) ms)
-      → Every ItemSound (moduleDone t md m ms go)
-  unfolding moduleDone
+      → Every ItemSound (closed t md m ms go)
+  unfolding closed
   module-done true md m ms g i = rest m [] (ms ++ (md ∷ [])) i
   module-done false md m ms g i = (g, rest m [] ms i)
 
@@ -415,8 +416,7 @@ items-from-sound (l ∷ ls) n m ps ms i =
 -- every module of every file has legal parts, at most 64 entries and 64 externals, as many code words as its CODE
 -- headers count, all inside its length; and a section has at most 256 modules
 pub items-sound : (file : List ℕ) → Every ItemSound (itemsOf file)
-unfolding itemsOf
-items-sound file = items-from-sound (linesOf file) 1 atStart [] [] start-stands
+items-sound file = rw items-lines (items-from-sound (linesOf file) 1 atStart [] [] start-stands)
 
 -- the legality of all parts as a test
 unfoldable pub legalModule : Module → Bool
@@ -470,8 +470,8 @@ at-end n (beforeOther {w} i h known l) e =
 step-rest :
     (n : ℕ) (go : Mode → Reading) (end : Mode → Option Mode)
     → ((m : Mode) (ps : List Part) (ms : List Module) → Stands m ps ms → go m ≡ Complete → end m ≡ some atStart)
-    → (a : Step) (ps : List Part) (ms : List Module) → After ps ms a → onward n a go ≡ Complete → afterStep a end ≡ some atStart
-unfolding onward afterStep
+    → (a : Step) (ps : List Part) (ms : List Module) → After ps ms a → onStep n a go ≡ Complete → afterStep a end ≡ some atStart
+unfolding onStep afterStep
 step-rest n go end f (Stop k c) ps ms i e = absurd (stopped e)
 step-rest n go end f (Next m) ps ms i e = f m ps ms i e
 step-rest n go end f (Add m p) ps ms i e = f m (ps ++ (p ∷ [])) ms i e

@@ -7,7 +7,7 @@ use mathlib.Core.Path.{_≡_}
 use lib.ListN.{length}
 use Rattle.rules.specs.Reading.{Item, free, section, itemsOf}
 use Rattle.rules.specs.State.{State}
-use Rattle.rules.specs.Load.{Walk, walking, accepted, place, wants, searched, Progress, progress, walkItem, walkItems}
+use Rattle.rules.specs.Load.{Walk, walking, accepted, place, takes, searched, Progress, progress, walkItem, walkItems}
 use Rattle.rules.specs.Calls.{holding, load}
 use Rattle.rules.proofs.SearchLaws.{count, search-rounds-most}
 use Rattle.rules.proofs.WalkLaws.{section-accepted, items-accepted, load-accepted}
@@ -37,7 +37,7 @@ item-rounds : (p : Progress) (i : Item) → accepted (walkItem p i .walk) ≡ tr
 unfolding walkItem takenAt sectionsAt searched
 item-rounds p (free m) h = omega arith
 item-rounds p (section line ms) h =
-    rw (section-accepted p line ms h .1) (omega (arith, search-rounds-most wants place ms (p .walk)))
+    rw (section-accepted p line ms h .1) (omega (arith, search-rounds-most takes place ms (p .walk)))
 
 items-rounds : (p : Progress) (is : List Item) → accepted (walkItems p is .walk) ≡ true →
     walkItems p is .rounds ≤ p .rounds + takenIn p is + sectionsIn is

@@ -16,10 +16,10 @@ use Rattle.rules.specs.Search as Search
 use Rattle.rules.specs.Load as Load
 use Rattle.rules.specs.Image as Image
 use Rattle.rules.specs.Calls as Calls
-use Rattle.rules.specs.Text.{bytes, numberOf, packName}
-use Rattle.rules.specs.Line.{sameText}
+use Rattle.rules.specs.Text.{bytes, sameText, numberOf, packName}
 use Rattle.rules.specs.State.{Symbol, symbol, Word, unplaced, plain, refers, Mark, unmarked, broken, frozen, fresh, undefinedOnly}
-use Rattle.rules.specs.Calls.{LoadOutcome, Left, asBefore, now, holding, load, base, end}
+use Rattle.rules.specs.declared.answer.LoadAnswer.{LoadAnswer}
+use Rattle.rules.specs.Calls.{Outcome, Left, asBefore, now, holding, load, base, end}
 
 -- ---- the files
 
@@ -89,7 +89,7 @@ sameState a b =
     && (eqb (a .next) (b .next) && eqb (markNumber (a .mark)) (markNumber (b .mark))))
 
 -- a load from a state, and the state that it leaves
-loadIn : State.State → List ℕ → LoadOutcome
+loadIn : State.State → List ℕ → Outcome LoadAnswer
 loadIn s file = load (holding s) true file
 
 after : State.State → Left → State.State
@@ -99,7 +99,7 @@ after s (now t) = t
 then : State.State → List ℕ → State.State
 then s file = after s (loadIn s file .left)
 
-answers : LoadOutcome → ℕ → ℕ → ℕ → Bool
+answers : Outcome LoadAnswer → ℕ → ℕ → ℕ → Bool
 answers o k n r = eqb (o .answer .number) k && (eqb (o .answer .line) n && eqb (o .answer .rounds) r)
 
 baseAt : ℕ → State.State → State.State
@@ -150,8 +150,8 @@ p2 =
 pub p3 : Bool
 p3 =
     let e = end (holding linked) (replicate 63 1) in
-    eqb (e .answer .number) 0
-    && (eqb (e .answer .length) 60
+    eqb (e .call .answer .number) 0
+    && (eqb (e .call .answer .length) 60
     && sameText
     (e .output)
     (hex
@@ -194,7 +194,7 @@ p8 =
     answers (loadIn s again) 10 1 0
     && (sameState t (State.marked broken s) && (answers (loadIn t []) 3 0 0 && sameState (then t []) t))
 
--- LOW twice in one library: 13, though nobody wants it
+-- LOW twice in one library: 13, though nobody needs it
 pub p9 : Bool
 p9 = answers (loadIn fresh (bytes "6 ***LSB\n" ++ low ++ low ++ bytes "7 ***LEB\n")) 13 1 0
 
@@ -205,5 +205,5 @@ p10 =
     && answers (loadIn fresh (coded "12 1 ***FPB\n0 0 2\n0 0\n0 0\n")) 0 0 0
 
 pub p-table : (p1 && (p2 && (p3 && (p4 && (p5 && (p6 && (p7 && (p8 && (p9 && p10))))))))) ≡ true
-unfolding main low sq cube library digit spaceless pairs hex tableNumbers named wordNumbers allWords markNumber sameState loadIn after then answers baseAt linked coded oneWord again wordsLinked isNumber p1 p2 p3 p4 p5 p6 p7 p8 p9 p10 Text.bytes Text.all Text.any Text.startsLF Text.widenLine Text.addToLines Text.linesOf Text.legalFront Text.startsField Text.widenField Text.addToFields Text.fieldsFrom Text.fieldsOf Text.octal Text.isNumber Text.numberOf Text.isName Text.packName Text.nameOf Text.upToZero Text.unpackName Text.isPacked Line.headers Line.rowIn Line.rowOf Line.markerIn Line.sameText Line.held Line.inBounds Line.readField Line.inFront Line.fit Line.said Line.sayHeader Line.rowAt Line.firstText Line.headerLine Line.codeLine Line.isOne Line.textAt Line.entryLine Line.fieldsSay Line.lineOf Line.faultWithin Line.testBytes Line.lineAnswer Reading.atStart Reading.want Reading.wantRecords Reading.recordDone Reading.wantSubs Reading.titleHeader Reading.enterModule Reading.leaveModule Reading.enterSection Reading.leaveSection Reading.countEntry Reading.countExternal Reading.titleStep Reading.libraryStep Reading.libraryEndStep Reading.headerStep Reading.closingStep Reading.entryStep Reading.externalStep Reading.parameterStep Reading.subStep Reading.stepOf Reading.isHeader Reading.atEnd Reading.onward Reading.readFrom Reading.readingOf Reading.moduleDone Reading.gather Reading.itemsFrom Reading.itemsOf State.noWords State.fresh State.isSymbol State.isDefined State.isUndefined State.placeOf State.undefinedOnly State.placedWords State.highestFrom State.highest State.high State.soundSymbol State.differentNames State.soundWord State.sound Placing.entriesIn Placing.externalsIn Placing.codeIn Placing.lengthIn Placing.countIn Placing.valueAt Placing.define Placing.mention Placing.defineAll Placing.mentionAll Placing.joined Placing.linked Placing.putAll Placing.noRoom Placing.clash Placing.overlaps Placing.badArgument Placing.badArguments Placing.outOfRange Placing.twice Placing.duplicates Placing.tableFull Placing.placingFault Placing.placed Search.nowhere Search.with Search.visit Search.sweep Search.round Search.rounds Search.search Load.tryPlace Load.place Load.entryNames Load.wanted Load.wants Load.searched Load.sectionNames Load.testSection Load.walkItem Load.walkItems Load.walked Load.loadRead Load.loadFile Image.valueOf Image.completed Image.two Image.quarters Image.wordRecord Image.recordOf Image.recordsFrom Image.endRecord Image.imageOf Calls.workAfter Calls.shutBy Calls.loadState Calls.loadLent Calls.load Calls.forceState Calls.force Calls.baseState Calls.base Calls.reset Calls.memory Calls.symbolAt Calls.symbols Calls.undefinedAt Calls.undefined Calls.isBroken Calls.endState Calls.end
+unfolding main low sq cube library digit spaceless pairs hex tableNumbers named wordNumbers allWords markNumber sameState loadIn after then answers baseAt linked coded oneWord again wordsLinked isNumber p1 p2 p3 p4 p5 p6 p7 p8 p9 p10 Text.bytes Text.all Text.any Text.widenLine Text.cutLines Text.withoutEnd Text.linesOf Text.legalFront Text.startsField Text.widenField Text.addToFields Text.fieldsFrom Text.fieldsOf Text.octal Text.isNumber Text.numberOf Text.isName Text.packName Text.nameOf Text.upToZero Text.unpackName Text.isPacked Line.headers Line.rowIn Line.rowOf Line.markerIn Text.sameText Line.held Line.inBounds Line.readField Line.inFront Line.fit Line.said Line.readAs Line.recordShape Line.codeLine Line.entryLine Line.sayHeader Line.rowAt Line.firstText Line.headerLine Line.isOne Line.textAt Line.fieldsSay Line.lineOf Line.faultWithin Line.testBytes Line.lineAnswer Reading.atStart Reading.expect Reading.expectRecords Reading.recordDone Reading.expectSubs Reading.titleHeader Reading.enterModule Reading.leaveModule Reading.enterSection Reading.leaveSection Reading.countEntry Reading.countExternal Reading.titleStep Reading.libraryStep Reading.libraryEndStep Reading.headerStep Reading.closingStep Reading.entryStep Reading.externalStep Reading.parameterStep Reading.subStep Reading.stepOf Reading.unread Reading.moduleDone Reading.stepped Reading.ifComplete Reading.readLine Reading.readLines Reading.isHeader Reading.atEnd Reading.readingOf Reading.itemsOf State.noWords State.fresh State.isSymbol State.isDefined State.isUndefined State.positionOf State.undefinedOnly State.placedWords State.highestFrom State.highest State.high State.soundSymbol State.differentNames State.soundWord State.sound Placing.entriesIn Placing.externalsIn Placing.codeIn Placing.lengthIn Placing.countIn Placing.valueAt Placing.define Placing.mention Placing.defineAll Placing.mentionAll Placing.joined Placing.linked Placing.putAll Placing.noRoom Placing.overlaps Placing.badArgument Placing.badArguments Placing.outOfRange Placing.twice Placing.duplicates Placing.tableFull Placing.placingFault Placing.placed Search.noModules Search.withModule Search.visit Search.sweep Search.round Search.rounds Search.search Load.tryPlace Load.place Load.entryNames Load.isNeeded Load.takes Load.searched Load.sectionNames Load.testSection Load.walkItem Load.walkItems Load.walked Load.loadRead Load.loadFile Image.valueOf Image.completed Image.two Image.quarters Image.wordRecord Image.recordOf Image.recordsFrom Image.endRecord Image.imageOf Calls.workAfter Calls.shutBy Calls.loadState Calls.loadLent Calls.load Calls.forceState Calls.force Calls.baseState Calls.base Calls.reset Calls.memory Calls.symbolAt Calls.symbols Calls.undefinedAt Calls.undefined Calls.isBroken Calls.endState Calls.end
 p-table = refl

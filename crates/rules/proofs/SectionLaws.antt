@@ -13,7 +13,7 @@ use borrow.Author.Tests.{eqb-true}
 use Rattle.rules.specs.Text.{any}
 use Rattle.rules.specs.Reading.{Module}
 use Rattle.rules.specs.Placing.{twice}
-use Rattle.rules.specs.Search.{Places, nowhere, with}
+use Rattle.rules.specs.Search.{ModuleSet, noModules, withModule}
 use Rattle.rules.specs.Load.{entryNames, sectionNames}
 use Rattle.rules.specs.Demand.{someFrom, isEntry, Contains}
 use Rattle.rules.proofs.BoolLaws.{never, never-none, or-on, or-off, and-on, both-ways, inside, eqb-same, any-append}
@@ -21,14 +21,14 @@ use Rattle.rules.proofs.BoolLaws.{never, never-none, or-on, or-off, and
 -- ---- some module of a set
 
 -- a module of a set, its place in the list and its place in the section, that passes a test
-pub record Member (p : Module → Bool) (set : Places) (ms : List Module) : Type 0 where
+pub record Member (p : Module → Bool) (set : ModuleSet) (ms : List Module) : Type 0 where
   pub place : ℕ
   pub one : Module
   pub stands : getElem? ms place ≡ some one
   pub belongs : set place ≡ true
   pub passes : p one ≡ true
 
-some-at-from : (p : Module → Bool) (set : Places) (j : ℕ) (ms : List Module) → Member p (λ k. set (j + k)) ms →
+some-at-from : (p : Module → Bool) (set : ModuleSet) (j : ℕ) (ms : List Module) → Member p (λ k. set (j + k)) ms →
     someFrom p set j ms ≡ true
 unfolding someFrom
 some-at-from p set j ms w = go j ms (w .place) (w .stands) (w .belongs)
@@ -43,7 +43,7 @@ some-at-from p set j ms w = go j ms (w .place) (w .stands) (w .belongs)
         let q : j + suc k ≡ j + 1 + k = omega arith in
         rw (go (j + 1) ms k e (rw q at s)) (or-true (set j && p n))
 
-some-in-from : (p : Module → Bool) (set : Places) (j : ℕ) (ms : List Module) → someFrom p set j ms ≡ true →
+some-in-from : (p : Module → Bool) (set : ModuleSet) (j : ℕ) (ms : List Module) → someFrom p set j ms ≡ true →
     Member p (λ k. set (j + k)) ms
 unfolding someFrom
 some-in-from p set j [] h = never h refl
@@ -61,25 +61,25 @@ some-in-from p set j (n ∷ ms) h =
 
 module _ (p : Module → Bool) (ms : List Module) where
   -- the same module, as one of another set
-  pub as-in : (big : Places) {set : Places} → (w : Member p set ms) → big (w .place) ≡ true → Member p big ms
+  pub as-in : (big : ModuleSet) {set : ModuleSet} → (w : Member p set ms) → big (w .place) ≡ true → Member p big ms
   as-in big w h = record { place = w .place; one = w .one; stands = w .stands; belongs = h; passes = w .passes }
 
-  pub some-at : (set : Places) → Member p set ms → someFrom p set 0 ms ≡ true
+  pub some-at : (set : ModuleSet) → Member p set ms → someFrom p set 0 ms ≡ true
   some-at set w = some-at-from p set 0 ms (as-in (λ k. set (0 + k)) w (rw zero-add (w .belongs)))
 
-  pub some-here : (set : Places) (i : ℕ) (m : Module) → getElem? ms i ≡ some m → set i ≡ true → p m ≡ true →
+  pub some-here : (set : ModuleSet) (i : ℕ) (m : Module) → getElem? ms i ≡ some m → set i ≡ true → p m ≡ true →
       someFrom p set 0 ms ≡ true
   some-here set i m e b h = some-at set (record { place = i; one = m; stands = e; belongs = b; passes = h })
 
-  pub some-in : (set : Places) → someFrom p set 0 ms ≡ true → Member p set ms
+  pub some-in : (set : ModuleSet) → someFrom p set 0 ms ≡ true → Member p set ms
   some-in set h = let w = some-in-from p set 0 ms h in as-in set w (rw (zero-add (w .place)) at (w .belongs))
 
   -- none of the empty set, and of a larger set no fewer
-  pub some-nowhere : someFrom p nowhere 0 ms ≡ false
-  unfolding nowhere
-  some-nowhere = both-ways (someFrom p nowhere 0 ms) false (λ h. some-in nowhere h .belongs) (λ h. never h refl)
+  pub some-nowhere : someFrom p noModules 0 ms ≡ false
+  unfolding noModules
+  some-nowhere = both-ways (someFrom p noModules 0 ms) false (λ h. some-in noModules h .belongs) (λ h. never h refl)
 
-  pub some-larger : (big small : Places) → Contains ms big small → someFrom p small 0 ms ≡ true →
+  pub some-larger : (big small : ModuleSet) → Contains ms big small → someFrom p small 0 ms ≡ true →
       someFrom p big 0 ms ≡ true
   unfolding Contains
   some-larger big small c h =
@@ -87,14 +87,14 @@ module _ (p : Module → Bool) (ms : List Module) where
       some-at big (as-in big w (c (w .place) (inside ms (w .place) (w .stands)) (w .belongs)))
 
   -- with one place more
-  pub some-with : (i : ℕ) (m : Module) (t : Places) → getElem? ms i ≡ some m →
-      someFrom p (with i t) 0 ms ≡ (p m || someFrom p t 0 ms)
-  unfolding with
-  some-with i m t e = both-ways (someFrom p (with i t) 0 ms) (p m || someFrom p t 0 ms) less more
+  pub some-with : (i : ℕ) (m : Module) (t : ModuleSet) → getElem? ms i ≡ some m →
+      someFrom p (withModule i t) 0 ms ≡ (p m || someFrom p t 0 ms)
+  unfolding withModule
+  some-with i m t e = both-ways (someFrom p (withModule i t) 0 ms) (p m || someFrom p t 0 ms) less more
     where
-      less : someFrom p (with i t) 0 ms ≡ true → (p m || someFrom p t 0 ms) ≡ true
+      less : someFrom p (withModule i t) 0 ms ≡ true → (p m || someFrom p t 0 ms) ≡ true
       less h =
-          let w = some-in (with i t) h in
+          let w = some-in (withModule i t) h in
           ⊎-elim
           (λ q.
           let here : getElem? ms i ≡ some (w .one) = ap (getElem? ms) (eqb-true i (w .place) q) ∙ w .stands in
@@ -103,13 +103,13 @@ module _ (p : Module → Bool) (ms : List Module) where
           (λ q. rw (some-at t (as-in t w q)) (or-true (p m)))
           (or-on (eqb i (w .place)) (t (w .place)) (w .belongs))
 
-      more : (p m || someFrom p t 0 ms) ≡ true → someFrom p (with i t) 0 ms ≡ true
+      more : (p m || someFrom p t 0 ms) ≡ true → someFrom p (withModule i t) 0 ms ≡ true
       more h =
           ⊎-elim
-          (λ q. some-here (with i t) i m e (rw (eqb-same i)) q)
+          (λ q. some-here (withModule i t) i m e (rw (eqb-same i)) q)
           (λ q.
           let w = some-in t q in
-          some-at (with i t) (as-in (with i t) w (rw (w .belongs) (or-true (eqb i (w .place))))))
+          some-at (withModule i t) (as-in (withModule i t) w (rw (w .belongs) (or-true (eqb i (w .place))))))
           (or-on (p m) (someFrom p t 0 ms) h)
 
 -- ---- a name that stands once

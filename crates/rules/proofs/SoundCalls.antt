@@ -11,8 +11,8 @@ use Rattle.rules.specs.Text.{all, isName, packName, isPacked}
 use Rattle.rules.specs.Reading.{Module, Item, free, section, itemsOf}
 use Rattle.rules.specs.State.{Symbol, nameIs, Mark, State, state, Word, unplaced, fresh, noWords, marked, broken, frozen, soundWord, soundSymbol, differentNames, sound}
 use Rattle.rules.specs.Placing.{mention, placingFault, placed}
-use Rattle.rules.specs.Search.{Places}
-use Rattle.rules.specs.Load.{Walk, walking, refusedAt, accepted, tryPlace, place, wants, searched, testSection, Progress, progress, walkItem, walkItems, walkFrom}
+use Rattle.rules.specs.Search.{ModuleSet}
+use Rattle.rules.specs.Load.{Walk, refusal, walk, walking, accepted, tryPlace, place, takes, searched, testSection, Progress, progress, walkItem, walkItems, walkFrom}
 use Rattle.rules.specs.Calls.{Left, asBefore, now, holding, load, force, base, reset, end, withSymbols}
 use Rattle.rules.specs.History.{Call, loading, forcing, basing, resetting, ending, stateAfter, called}
 use Rattle.rules.proofs.TestLaws.{Every, every-found, all-cons, all-weaken}
@@ -71,9 +71,9 @@ base-sound s address h =
       next = omega (arith, ltb-false 4095 address small);
     }
 
-end-sound : (s : State) (out : List ℕ) → Sound s → Sound (stateAfter s (end (holding s) out .left))
+end-sound : (s : State) (out : List ℕ) → Sound s → Sound (stateAfter s (end (holding s) out .call .left))
 unfolding stateAfter
-end-sound s out h = end-cases (λ o. Sound (stateAfter s (o .left))) s out (λ k. h) (λ _. marked-sound frozen s h)
+end-sound s out h = end-cases (λ o. Sound (stateAfter s (o .call .left))) s out (λ k. h) (λ _. marked-sound frozen s h)
 
 all-unplaced : (n k : ℕ) → all (soundWord n) (replicate k unplaced) ≡ true
 unfolding all soundWord
@@ -102,10 +102,10 @@ place-sound : (w : Walk) (m : Module) → Legal m → Sound (w .state) → Sound
 unfolding place tryPlace
 place-sound w m l h =
     let s = w .state in
-    let tried = cond (eqb (placingFault s m) 0) (walking (placed s m)) (refusedAt (placingFault s m) (m .line) s) in
+    let tried = cond (eqb (placingFault s m) 0) (walking (placed s m)) (walk (refusal (placingFault s m) (m .line)) s) in
     cond-cases (λ v. Sound (v .state)) (accepted w) tried w
     (λ _.
-    cond-cases (λ v. Sound (v .state)) (eqb (placingFault s m) 0) (walking (placed s m)) (refusedAt (placingFault s m) (m .line) s)
+    cond-cases (λ v. Sound (v .state)) (eqb (placingFault s m) 0) (walking (placed s m)) (walk (refusal (placingFault s m) (m .line)) s)
     (λ e. placed-sound s m h l (passed s m (eqb-true (placingFault s m) 0 e)))
     (λ _. h))
     (λ _. h)
@@ -124,9 +124,9 @@ unfolding walkItem searched
 item-sound p (free m) g h = place-sound (p .walk) m (sound-legal m g) h
 item-sound p (section line ms) g h =
     search-keeps
-    wants
+    takes
     place
-    (λ (t : Places) (w : Walk). Sound (w .state))
+    (λ (t : ModuleSet) (w : Walk). Sound (w .state))
     ms
     (testSection line ms (p .walk))
     (λ i m t w e _ _. place-sound w m (sound-legal m (every-found ModuleSound ms i (g .0) e)))

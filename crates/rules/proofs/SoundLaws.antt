@@ -9,7 +9,7 @@ use lib.ListN.{length, getD, set, length-set}
 use lib.Dec.{eqb, ltb, leb}
 use borrow.Author.Tests.{ltb-true, ltb-false, lt-ltb, le-leb, leb-true, leb-false, eqb-true, eq-eqb, eqb-false}
 use Rattle.rules.specs.Text.{all, any, isPacked}
-use Rattle.rules.specs.State.{Symbol, symbol, nameIs, isSymbol, placeOf, Word, unplaced, plain, refers, State, state, soundSymbol, differentNames, soundWord, sound}
+use Rattle.rules.specs.State.{Symbol, symbol, nameIs, isSymbol, positionOf, Word, unplaced, plain, refers, State, state, soundSymbol, differentNames, soundWord, sound}
 use Rattle.rules.specs.Reading.{Module}
 use Rattle.rules.specs.Demand.{isExternal, isEntry}
 use Rattle.rules.specs.declared.line.CodeWord.{CodeWord}
@@ -199,14 +199,14 @@ soundWord-more n k l (refers x i) h =
     and-intro (and-left (ltb x (2 ^ 64)) (ltb i n) h) (lt-ltb i k (omega arith))
 
 -- a symbol of the table stands below its length
-pub place-below : (x : ℕ) (t : List Symbol) → isSymbol x t ≡ true → placeOf x t < length t
-unfolding isSymbol any placeOf
+pub place-below : (x : ℕ) (t : List Symbol) → isSymbol x t ≡ true → positionOf x t < length t
+unfolding isSymbol any positionOf
 place-below x [] h = absurd (false≢true h)
 place-below x (s ∷ t) h = go (nameIs x s) h (place-below x t)
   where
-    go : (b : Bool) → (b || any (nameIs x) t) ≡ true → (any (nameIs x) t ≡ true → placeOf x t < length t) → cond b 0 (placeOf x t + 1) < suc (length t)
+    go : (b : Bool) → (b || any (nameIs x) t) ≡ true → (any (nameIs x) t ≡ true → positionOf x t < length t) → cond b 0 (positionOf x t + 1) < suc (length t)
     go true h ih = suc-le-suc zero-le
-    go false h ih = let k : placeOf x t < length t = ih h in omega arith
+    go false h ih = let k : positionOf x t < length t = ih h in omega arith
 
 -- a word that refers only to symbols of the table
 linked-sound : (xs : List ℕ) (t : List Symbol) (text : ℕ) (r : Relocation)

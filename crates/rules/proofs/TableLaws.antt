@@ -10,7 +10,7 @@ use lib.Dec.{eqb}
 use borrow.Author.Tests.{eqb-true, not-true}
 use Rattle.rules.specs.Text.{any}
 use Rattle.rules.specs.Reading.{Module}
-use Rattle.rules.specs.State.{Symbol, symbol, nameIs, isSymbol, isDefined, isUndefined, placeOf, differentNames}
+use Rattle.rules.specs.State.{Symbol, symbol, nameIs, isSymbol, isDefined, isUndefined, positionOf, differentNames}
 use Rattle.rules.specs.Placing.{entries, externals, entryName, valueAt, define, mention, defineAll, mentionAll, joined, twice}
 use Rattle.rules.specs.Load.{entryNames}
 use Rattle.rules.specs.Demand.{isEntry, isExternal}
@@ -298,14 +298,14 @@ value-relocated base e h = rw h
 
 -- the symbol at a name's place, or d where it has none
 unfoldable pub symbolOf : ℕ → List Symbol → Symbol → Symbol
-symbolOf y t d = getD t (placeOf y t) d
+symbolOf y t d = getD t (positionOf y t) d
 
 pub symbolOf-cons : (y : ℕ) (s : Symbol) (t : List Symbol) (d : Symbol) →
     symbolOf y (s ∷ t) d ≡ cond (nameIs y s) s (symbolOf y t d)
-unfolding symbolOf placeOf
+unfolding symbolOf positionOf
 symbolOf-cons y s t d = go (nameIs y s)
   where
-    go : (b : Bool) → getD (s ∷ t) (cond b 0 (placeOf y t + 1)) d ≡ cond b s (getD t (placeOf y t) d)
+    go : (b : Bool) → getD (s ∷ t) (cond b 0 (positionOf y t + 1)) d ≡ cond b s (getD t (positionOf y t) d)
     go true = refl
     go false = rw add-one
 

@@ -10,8 +10,9 @@ use borrow.Author.Tests.{eqb-false, not-true}
 use Rattle.rules.specs.Reading.{Module, Item, free, section, readingOf, itemsOf}
 use Rattle.rules.specs.State.{State, differentNames}
 use Rattle.rules.specs.Placing.{placingFault, placed, twice}
-use Rattle.rules.specs.Load.{Walk, walking, accepted, tryPlace, place, wants, searched, sectionNames, testSection, Progress, walkItem, walkItems, walkFrom, Loaded, walked, loadRead, loadFile}
-use Rattle.rules.specs.Calls.{LoadOutcome, loadOutcome, holding, shutBy, loadState, loadLent, load}
+use Rattle.rules.specs.Load.{refusal, Walk, walking, loaded, accepted, tryPlace, place, takes, searched, sectionNames, testSection, Progress, walkItem, walkItems, walkFrom, Loaded, walked, loadRead, loadFile}
+use Rattle.rules.specs.declared.answer.LoadAnswer.{LoadAnswer}
+use Rattle.rules.specs.Calls.{Outcome, loadOutcome, holding, shutBy, loadState, loadLent, load}
 use Rattle.rules.specs.declared.reading.Reading.{Reading}
 use Rattle.rules.specs.declared.reading.Reading.the-variants.{Complete, Stopped}
 use Rattle.rules.proofs.BoolLaws.{cond-cases, never}
@@ -40,7 +41,7 @@ place-placed w m =
 pub search-accepted : (ms : List Module) (w : Walk) → accepted (searched ms w .now) ≡ true → accepted w ≡ true
 unfolding searched
 search-accepted ms w =
-    search-keeps wants place (λ t v. accepted v ≡ true → accepted w ≡ true) ms w
+    search-keeps takes place (λ t v. accepted v ≡ true → accepted w ≡ true) ms w
     (λ i m t v _ _ _ ih h. ih (place-accepted v m h))
     (λ h. h)
 
@@ -98,7 +99,7 @@ unfolding walkItem searched testSection
 item-different p (free m) h = place-different (p .walk) m h
 item-different p (section line ms) h =
     let w = testSection line ms (p .walk) in
-    search-keeps wants place (λ t v. Different v) ms w
+    search-keeps takes place (λ t v. Different v) ms w
     (λ i m t v _ _ _ d. place-different v m d)
     (cond-cases Different (accepted (p .walk) && twice (sectionNames ms)) _ _ (λ _. h) (λ _. h))
 
@@ -111,32 +112,32 @@ items-different p (i ∷ is) h = items-different (walkItem p i) is (item-differe
 -- ---- an accepted load
 
 abbrev accomplished : Progress → Loaded
-accomplished p = record { number = 0; line = 0; rounds = p .rounds; state = p .walk .state }
+accomplished p = loaded (refusal 0 0) (p .rounds) (p .walk .state)
 
-walked-accepted : (s : State) (p : Progress) → walked s p .number ≡ 0 →
+walked-accepted : (s : State) (p : Progress) → walked s p .refusal .number ≡ 0 →
     (accepted (p .walk) ≡ true) × (walked s p ≡ accomplished p)
 unfolding walked
 walked-accepted s p =
-    cond-cases (λ (l : Loaded). l .number ≡ 0 → (accepted (p .walk) ≡ true) × (l ≡ accomplished p))
+    cond-cases (λ (l : Loaded). l .refusal .number ≡ 0 → (accepted (p .walk) ≡ true) × (l ≡ accomplished p))
     (accepted (p .walk)) _ _
     (λ e _. (e, refl))
-    (λ e h. absurd (eqb-false (p .walk .number) 0 e h))
+    (λ e h. absurd (eqb-false (p .walk .refusal .number) 0 e h))
 
-read-accepted : (s : State) (file : List ℕ) (r : Reading) → readingNumber r ≡ true → loadRead s file r .number ≡ 0 →
+read-accepted : (s : State) (file : List ℕ) (r : Reading) → readingNumber r ≡ true → loadRead s file r .refusal .number ≡ 0 →
     let p = walkFrom s (itemsOf file) in (accepted (p .walk) ≡ true) × (loadRead s file r ≡ accomplished p)
 unfolding loadRead readingNumber
 read-accepted s file (Stopped k n c) t h = absurd (omega (arith, between-low 6 8 k t))
 read-accepted s file Complete t h = walked-accepted s (walkFrom s (itemsOf file)) h
 
 -- an accepted load is what its walk comes to
-abbrev Comes : Progress → LoadOutcome → Type 0
+abbrev Comes : Progress → Outcome LoadAnswer → Type 0
 Comes p o = o .answer .number ≡ 0 → (accepted (p .walk) ≡ true) × (o ≡ loadOutcome (accomplished p))
 
 pub load-accepted : (s : State) (file : List ℕ) → load (holding s) true file .answer .number ≡ 0 →
     let p = walkFrom s (itemsOf file) in
     (accepted (p .walk) ≡ true)
     × (load (holding s) true file
-    ≡ loadOutcome (record { number = 0; line = 0; rounds = p .rounds; state = p .walk .state }))
+    ≡ loadOutcome (loaded (refusal 0 0) (p .rounds) (p .walk .state)))
 unfolding load loadLent loadState loadFile
 load-accepted s file =
     let p = walkFrom s (itemsOf file) in

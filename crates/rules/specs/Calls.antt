@@ -4,8 +4,10 @@ use mathlib.Core.Bool.{Bool, true, false, cond, not, _&&_, _||_}
 use mathlib.Core.List.{List, [], _∷_, _++_}
 use lib.ListN.{length, getD, drop, replicate}
 use lib.Dec.{eqb, leb, ltb}
+use Rattle.rules.specs.Limits.{longestFile, mostSymbols, largestBase}
 use Rattle.rules.specs.Text.{isName, packName}
-use Rattle.rules.specs.State.{Symbol, symbol, State, state, Mark, unmarked, broken, frozen, fresh, marked, isSymbol, placeOf, undefinedOnly, highest, high}
+use Rattle.rules.specs.Answers.{DONE, BUFFER, DAMAGED, RESET, FROZEN, TOO-LONG, RANGE, TABLE, NAME, OUT}
+use Rattle.rules.specs.State.{Symbol, symbol, State, state, Mark, unmarked, broken, frozen, fresh, marked, isSymbol, positionOf, undefinedOnly, highest, high}
 use Rattle.rules.specs.Placing.{mention}
 use Rattle.rules.specs.Load.{Loaded, loadFile}
 use Rattle.rules.specs.Image.{imageOf}
@@ -35,89 +37,89 @@ workAfter size work = cond (eqb (length work) size) (replicate size 0) work
 
 -- 3 RESET: "broken; LOAD, FORCE, BASE, END", and 4 FROZEN: "an END was done; LOAD, FORCE, BASE"; 0 where neither applies
 unfoldable pub shutBy : Mark → ℕ
-shutBy unmarked = 0
-shutBy broken = 3
-shutBy frozen = 4
+shutBy unmarked = DONE
+shutBy broken = RESET
+shutBy frozen = FROZEN
+
+-- what a call comes to: its answer, and state memory as it leaves it
+pub record Outcome (A : Type 0) : Type 0 where
+  pub answer : A
+  pub left : Left
+
+abbrev pub outcome : {A : Type 0} → A → Left → Outcome A
+outcome a l = record { answer = a; left = l }
 
 -- ---- LOAD
-
-pub record LoadOutcome : Type 0 where
-  pub answer : LoadAnswer
-  pub left : Left
 
 abbrev pub loadAnswer : ℕ → ℕ → ℕ → LoadAnswer
 loadAnswer k n r = record { number = k; line = n; rounds = r }
 
-abbrev pub loadStopped : ℕ → LoadOutcome
-loadStopped k = record { answer = loadAnswer k 0 0; left = asBefore }
+abbrev pub loadStopped : ℕ → Outcome LoadAnswer
+loadStopped k = outcome (loadAnswer k 0 0) asBefore
 
-abbrev pub loadOutcome : Loaded → LoadOutcome
-loadOutcome l = record { answer = loadAnswer (l .number) (l .line) (l .rounds); left = now (l .state) }
+abbrev pub loadOutcome : Loaded → Outcome LoadAnswer
+loadOutcome l = outcome (loadAnswer (l .refusal .number) (l .refusal .line) (l .rounds)) (now (l .state))
 
 -- 3 and 4, then 5 TOO LONG, then the file
-unfoldable pub loadState : State → List ℕ → LoadOutcome
+unfoldable pub loadState : State → List ℕ → Outcome LoadAnswer
 loadState s file =
     let k = shutBy (s .mark) in
     let read = loadOutcome (loadFile s file) in
-    cond (not (eqb k 0)) (loadStopped k) (cond (ltb 65536 (length file)) (loadStopped 5) read)
+    cond (not (eqb k DONE)) (loadStopped k) (cond (ltb longestFile (length file)) (loadStopped TOO-LONG) read)
 
-unfoldable pub loadLent : Lent → List ℕ → LoadOutcome
-loadLent wrongLength file = loadStopped 1
-loadLent damaged file = loadStopped 2
+unfoldable pub loadLent : Lent → List ℕ → Outcome LoadAnswer
+loadLent wrongLength file = loadStopped BUFFER
+loadLent damaged file = loadStopped DAMAGED
 loadLent (holding s) file = loadState s file
 
 -- 1 BUFFER: "state or work memory hasn't its fixed length"
-unfoldable pub load : Lent → Bool → List ℕ → LoadOutcome
-load lent false file = loadStopped 1
+unfoldable pub load : Lent → Bool → List ℕ → Outcome LoadAnswer
+load lent false file = loadStopped BUFFER
 load lent true file = loadLent lent file
 
 -- ---- FORCE, BASE, RESET
 
-pub record CallOutcome : Type 0 where
-  pub answer : CallAnswer
-  pub left : Left
-
 abbrev pub callAnswer : ℕ → CallAnswer
 callAnswer k = record { number = k; line = 0 }
 
-abbrev pub stopped : ℕ → CallOutcome
-stopped k = record { answer = callAnswer k; left = asBefore }
+abbrev pub stopped : ℕ → Outcome CallAnswer
+stopped k = outcome (callAnswer k) asBefore
 
-abbrev pub done : State → CallOutcome
-done s = record { answer = callAnswer 0; left = now s }
+abbrev pub done : State → Outcome CallAnswer
+done s = outcome (callAnswer DONE) (now s)
 
 abbrev pub withSymbols : List Symbol → State → State
 withSymbols t s = state t (s .words) (s .next) (s .mark)
 
 -- "FORCE tests 15 before 14, and is DONE without change for a name in the table."
-unfoldable pub forceState : State → List ℕ → CallOutcome
+unfoldable pub forceState : State → List ℕ → Outcome CallAnswer
 forceState s name =
     let k = shutBy (s .mark) in
-    cond (not (eqb k 0)) (stopped k)
-    (cond (not (isName name)) (stopped 15)
+    cond (not (eqb k DONE)) (stopped k)
+    (cond (not (isName name)) (stopped NAME)
     (cond (isSymbol (packName name) (s .symbols)) (done s)
-    (cond (leb 256 (length (s .symbols))) (stopped 14) (done (withSymbols (mention (packName name) (s .symbols)) s)))))
+    (cond (leb mostSymbols (length (s .symbols))) (stopped TABLE) (done (withSymbols (mention (packName name) (s .symbols)) s)))))
 
-unfoldable pub force : Lent → List ℕ → CallOutcome
-force wrongLength name = stopped 1
-force damaged name = stopped 2
+unfoldable pub force : Lent → List ℕ → Outcome CallAnswer
+force wrongLength name = stopped BUFFER
+force damaged name = stopped DAMAGED
 force (holding s) name = forceState s name
 
 -- 12 RANGE: "BASE over 4,095"
-unfoldable pub baseState : State → ℕ → CallOutcome
+unfoldable pub baseState : State → ℕ → Outcome CallAnswer
 baseState s address =
     let k = shutBy (s .mark) in
-    cond (not (eqb k 0)) (stopped k)
-    (cond (ltb 4095 address) (stopped 12) (done (state (s .symbols) (s .words) address (s .mark))))
+    cond (not (eqb k DONE)) (stopped k)
+    (cond (ltb largestBase address) (stopped RANGE) (done (state (s .symbols) (s .words) address (s .mark))))
 
-unfoldable pub base : Lent → ℕ → CallOutcome
-base wrongLength address = stopped 1
-base damaged address = stopped 2
+unfoldable pub base : Lent → ℕ → Outcome CallAnswer
+base wrongLength address = stopped BUFFER
+base damaged address = stopped DAMAGED
 base (holding s) address = baseState s address
 
 -- "RESET tests only 1, and makes the fresh state"
-unfoldable pub reset : Lent → CallOutcome
-reset wrongLength = stopped 1
+unfoldable pub reset : Lent → Outcome CallAnswer
+reset wrongLength = stopped BUFFER
 reset damaged = done fresh
 reset (holding s) = done fresh
 
@@ -127,9 +129,9 @@ abbrev pub memoryAnswer : ℕ → ℕ → MemoryAnswer
 memoryAnswer k h = record { number = k; line = 0; high = h }
 
 unfoldable pub memory : Lent → MemoryAnswer
-memory wrongLength = memoryAnswer 1 0
-memory damaged = memoryAnswer 2 0
-memory (holding s) = memoryAnswer 0 (high s)
+memory wrongLength = memoryAnswer BUFFER 0
+memory damaged = memoryAnswer DAMAGED 0
+memory (holding s) = memoryAnswer DONE (high s)
 
 abbrev pub bit : Bool → ℕ
 bit b = cond b 1 0
@@ -139,15 +141,15 @@ abbrev pub symbolNone : ℕ → ℕ → SymbolAnswer
 symbolNone k n = record { number = k; line = 0; none = n; name = 0; value = 0; defined = 0 }
 
 abbrev pub symbolIs : Symbol → SymbolAnswer
-symbolIs s = record { number = 0; line = 0; none = 0; name = s .name; value = s .value; defined = bit (s .defined) }
+symbolIs s = record { number = DONE; line = 0; none = 0; name = s .name; value = s .value; defined = bit (s .defined) }
 
 unfoldable pub symbolAt : List Symbol → ℕ → SymbolAnswer
-symbolAt t i = cond (ltb i (length t)) (symbolIs (getD t i (symbol 0 0 false))) (symbolNone 0 1)
+symbolAt t i = cond (ltb i (length t)) (symbolIs (getD t i (symbol 0 0 false))) (symbolNone DONE 1)
 
 -- "SYMBOLS gives name, value and whether defined, at an index in table order"
 unfoldable pub symbols : Lent → ℕ → SymbolAnswer
-symbols wrongLength i = symbolNone 1 0
-symbols damaged i = symbolNone 2 0
+symbols wrongLength i = symbolNone BUFFER 0
+symbols damaged i = symbolNone DAMAGED 0
 symbols (holding s) i = symbolAt (s .symbols) i
 
 abbrev pub undefinedNone : ℕ → ℕ → UndefinedAnswer
@@ -155,31 +157,31 @@ undefinedNone k n = record { number = k; line = 0; none = n; name = 0; value = 0
 
 abbrev pub undefinedIs : State → Symbol → UndefinedAnswer
 undefinedIs s y =
-    record { number = 0; line = 0; none = 0; name = y .name; value = y .value; defined = bit (y .defined); highest = highest (placeOf (y .name) (s .symbols)) (s .words) }
+    record { number = DONE; line = 0; none = 0; name = y .name; value = y .value; defined = bit (y .defined); highest = highest (positionOf (y .name) (s .symbols)) (s .words) }
 
 unfoldable pub undefinedAt : State → ℕ → UndefinedAnswer
 undefinedAt s i =
     let t = undefinedOnly (s .symbols) in
-    cond (ltb i (length t)) (undefinedIs s (getD t i (symbol 0 0 false))) (undefinedNone 0 1)
+    cond (ltb i (length t)) (undefinedIs s (getD t i (symbol 0 0 false))) (undefinedNone DONE 1)
 
 -- "UNDEFINED the same over the undefined, with the highest address that refers to it"
 unfoldable pub undefined : Lent → ℕ → UndefinedAnswer
-undefined wrongLength i = undefinedNone 1 0
-undefined damaged i = undefinedNone 2 0
+undefined wrongLength i = undefinedNone BUFFER 0
+undefined damaged i = undefinedNone DAMAGED 0
 undefined (holding s) i = undefinedAt s i
 
 -- ---- END
 
+-- besides, the output as END leaves it
 pub record EndOutcome : Type 0 where
-  pub answer : EndAnswer
-  pub left : Left
+  pub call : Outcome EndAnswer
   pub output : List ℕ
 
 abbrev pub endAnswer : ℕ → ℕ → EndAnswer
 endAnswer k n = record { number = k; line = 0; length = n }
 
 abbrev pub endStopped : ℕ → List ℕ → EndOutcome
-endStopped k out = record { answer = endAnswer k 0; left = asBefore; output = out }
+endStopped k out = record { call = outcome (endAnswer k 0) asBefore; output = out }
 
 -- "the output keeps all bytes past it"
 abbrev pub overwritten : List ℕ → List ℕ → List ℕ
@@ -187,7 +189,7 @@ overwritten image out = image ++ drop (length image) out
 
 abbrev pub endDone : State → List ℕ → List ℕ → EndOutcome
 endDone s image out =
-    record { answer = endAnswer 0 (length image); left = now (marked frozen s); output = overwritten image out }
+    record { call = outcome (endAnswer DONE (length image)) (now (marked frozen s)); output = overwritten image out }
 
 unfoldable pub isBroken : Mark → Bool
 isBroken unmarked = false
@@ -198,10 +200,10 @@ isBroken frozen = false
 unfoldable pub endState : State → List ℕ → EndOutcome
 endState s out =
     let image = imageOf s in
-    cond (isBroken (s .mark)) (endStopped 3 out)
-    (cond (ltb (length out) (length image)) (endStopped 16 out) (endDone s image out))
+    cond (isBroken (s .mark)) (endStopped RESET out)
+    (cond (ltb (length out) (length image)) (endStopped OUT out) (endDone s image out))
 
 unfoldable pub end : Lent → List ℕ → EndOutcome
-end wrongLength out = endStopped 1 out
-end damaged out = endStopped 2 out
+end wrongLength out = endStopped BUFFER out
+end damaged out = endStopped DAMAGED out
 end (holding s) out = endState s out

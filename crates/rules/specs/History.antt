@@ -7,7 +7,8 @@ use lib.Dec.{eqb}
 use Rattle.rules.specs.Reading.{Module, Item, free, section, itemsOf}
 use Rattle.rules.specs.State.{State, fresh}
 use Rattle.rules.specs.Placing.{codeCount}
-use Rattle.rules.specs.Search.{Places}
+use Rattle.rules.specs.Search.{ModuleSet}
+use Rattle.rules.specs.Answers.{DONE}
 use Rattle.rules.specs.Load.{Progress, progress, walking, searched, testSection, walkItem}
 use Rattle.rules.specs.Calls.{Left, asBefore, now, holding, load, force, base, reset, end}
 
@@ -28,7 +29,7 @@ called s (loading file) = stateAfter s (load (holding s) true file .left)
 called s (forcing name) = stateAfter s (force (holding s) name .left)
 called s (basing address) = stateAfter s (base (holding s) address .left)
 called s resetting = stateAfter s (reset (holding s) .left)
-called s (ending out) = stateAfter s (end (holding s) out .left)
+called s (ending out) = stateAfter s (end (holding s) out .call .left)
 
 unfoldable pub calledAll : State → List Call → State
 calledAll s [] = s
@@ -36,8 +37,8 @@ calledAll s (c ∷ cs) = calledAll (called s c) cs
 
 -- ---- the modules that a load places
 
--- the modules of a set, from place i on
-unfoldable pub chosen : Places → ℕ → List Module → List Module
+-- the modules of a set, from position i on
+unfoldable pub chosen : ModuleSet → ℕ → List Module → List Module
 chosen set i [] = []
 chosen set i (m ∷ ms) = let rest = chosen set (i + 1) ms in cond (set i) (m ∷ rest) rest
 
@@ -56,7 +57,7 @@ codeCounts (m ∷ ms) = codeCount m + codeCounts ms
 -- the CODE counts of the modules that an accepted load places
 unfoldable pub countPlaced : State → List ℕ → ℕ
 countPlaced s file =
-    cond (eqb (load (holding s) true file .answer .number) 0) (codeCounts (placedFrom (progress (walking s) 0) (itemsOf file))) 0
+    cond (eqb (load (holding s) true file .answer .number) DONE) (codeCounts (placedFrom (progress (walking s) 0) (itemsOf file))) 0
 
 -- the sum since the last reset, after n from the calls before
 unfoldable pub countSince : ℕ → State → List Call → ℕ

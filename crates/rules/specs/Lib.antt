@@ -1,4 +1,6 @@
+pub mod Limits
 pub mod Text
+pub mod Answers
 pub mod Line
 pub mod Reading
 pub mod State

@@ -1,4 +1,4 @@
--- Document 01, "The lines": what a line says, by what is wanted of it, or its fault.
+-- Document 01, "The lines": what a line says, by what is expected of it, or its fault.
 use Prim.Native.Nat.{ℕ, suc, _+_, _*_}
 use mathlib.Core.Bool.{Bool, true, false, cond, not, _&&_}
 use mathlib.Core.List.{List, [], _∷_, _++_}
@@ -6,7 +6,8 @@ use mathlib.Core.Option.{Option, none, some}
 use lib.ListN.{length, getD}
 use lib.Dec.{eqb, leb, ltb}
 use Prim.Native.String.{String}
-use Rattle.rules.specs.Text.{bytes, Field, fieldsOf, numberOf, nameOf, legalFront, between}
+use Rattle.rules.specs.Limits.{longestLine, largestNumber, mostSubRecords}
+use Rattle.rules.specs.Text.{bytes, sameText, Field, fieldsOf, numberOf, nameOf, legalFront, between}
 use Rattle.rules.specs.declared.line.FaultKind.{FaultKind}
 use Rattle.rules.specs.declared.line.FaultKind.the-variants.{IllegalByte, BadMarker, FieldCount, BadNumber, BadName, BadType}
 use Rattle.rules.specs.declared.line.Fault.{Fault}
@@ -18,8 +19,8 @@ use Rattle.rules.specs.declared.line.CodeWord.{CodeWord}
 use Rattle.rules.specs.declared.line.Entry.{Entry}
 use Rattle.rules.specs.declared.line.Header.{Header}
 use Rattle.rules.specs.declared.line.Header.the-variants.{CodeBlock, EndBlock, TitleBlock, EntryBlock, ExternalBlock, LibraryStart, LibraryEnd, DataBlock, InitBlock, ParameterBlock}
-use Rattle.rules.specs.declared.line.Wanted.{Wanted}
-use Rattle.rules.specs.declared.line.Wanted.the-variants.{AnyHeader, OpeningTitle, ClosingTitle, CodeRecord, EntryRecord, ExternalRecord, DataRecord, InitRecord, ParameterRecord, SubRecord}
+use Rattle.rules.specs.declared.line.Expected.{Expected}
+use Rattle.rules.specs.declared.line.Expected.the-variants.{AnyHeader, OpeningTitle, ClosingTitle, CodeRecord, EntryRecord, ExternalRecord, DataRecord, InitRecord, ParameterRecord, SubRecord}
 use Rattle.rules.specs.declared.line.LineAnswer.{LineAnswer}
 use Rattle.rules.specs.declared.line.LineAnswer.the-variants.{Bad, Blank, Head, Opening, Closing, Code, Entered, Mentioned, Ignored, Parameter, Sub}
 
@@ -30,7 +31,7 @@ abbrev pub nth : List ℕ → ℕ → ℕ
 nth vs k = getD vs k 0
 
 abbrev pub number : Kind
-number = Number 0 0o177777 BadNumber
+number = Number 0 largestNumber BadNumber
 
 -- a row: the code, the fields between code and marker, the marker, and what the header says; field 0 is the code
 pub record Row : Type 0 where
@@ -76,12 +77,6 @@ markerOf c = markerIn (rowOf c)
 
 -- ---- fields against the kinds that they have to be
 
-unfoldable pub sameText : List ℕ → List ℕ → Bool
-sameText [] [] = true
-sameText [] (c ∷ cs) = false
-sameText (b ∷ bs) [] = false
-sameText (b ∷ bs) (c ∷ cs) = eqb b c && sameText bs cs
-
 -- a field that is of its kind, with its value, or is not, with the fault
 pub data Held : Type 0 where
   value : ℕ → Held
@@ -122,17 +117,32 @@ fit end [] (f ∷ fs) = misfit (fault FieldCount (f .column))
 fit end (k ∷ ks) [] = misfit (fault FieldCount end)
 fit end (k ∷ ks) (f ∷ fs) = inFront (f .column) (readField k (f .text)) (fit end ks fs)
 
+-- a shape of lines: the kinds of their fields, and what a line says by the fields' values
+pub record Shape : Type 0 where
+  pub kinds : List Kind
+  pub says : List ℕ → LineAnswer
+
+abbrev pub shape : List Kind → (List ℕ → LineAnswer) → Shape
+shape ks f = record { kinds = ks; says = f }
+
 unfoldable pub said : (List ℕ → LineAnswer) → Fitted → LineAnswer
 said answer (fits vs) = answer vs
 said answer (misfit f) = Bad f
 
+-- what a line of a shape says, or its leftmost fault
+unfoldable pub readAs : Shape → ℕ → List Field → LineAnswer
+readAs s end fs = said (s .says) (fit end (s .kinds) fs)
+
 -- ---- headers
+
+-- the code, which has chosen the row, the row's fields, the marker
+abbrev pub headerShape : Row → Shape
+headerShape r = shape (Anything ∷ r .fields ++ (Marker (r .code) ∷ [])) (λ v. Head (r .says v))
 
 unfoldable pub sayHeader : ℕ → List Field → Option Row → LineAnswer
 sayHeader end [] r = Blank
 sayHeader end (f ∷ fs) none = Bad (fault BadMarker (f .column))
-sayHeader end (f ∷ fs) (some r) =
-    said (λ vs. Head (r .says vs)) (fit end (Anything ∷ r .fields ++ (Marker (r .code) ∷ [])) (f ∷ fs))
+sayHeader end (f ∷ fs) (some r) = readAs (headerShape r) end (f ∷ fs)
 
 unfoldable pub rowAt : Option ℕ → Option Row
 rowAt none = none
@@ -157,30 +167,50 @@ abbrev pub codeWord : ℕ → Relocation → CodeWord
 codeWord t r = record { text = t; relocation = r }
 
 -- "Type 5 is an external [..] Types 1 to 4 leave the word as written"
+abbrev pub externalType : ℕ
+externalType = 5
+
 abbrev pub relocationOf : ℕ → ℕ → Relocation
-relocationOf type arg = cond (eqb type 5) (External arg) (Unread type)
+relocationOf type arg = cond (eqb type externalType) (External arg) (Unread type)
+
+abbrev pub entry : ℕ → ℕ → Bool → ℕ → Entry
+entry n v r p = record { name = n; value = v; relocated = r; parameters = p }
+
+-- the records that stand under the headers: a code record and an entry record have two shapes each
+pub data Record : Type 0 where
+  plainCode linkedCode absoluteEntry relocatedEntry external openingTitle closingTitle dataRecord initRecord parameterRecord subRecord : Record
+
+-- "Data records", in document 01's table: what each has to be, and what it says
+unfoldable pub recordShape : Record → Shape
+recordShape plainCode =
+    shape
+    (number ∷ number ∷ number ∷ number ∷ [])
+    (λ v. Code (codeWord (wordOf (nth v 0) (nth v 1) (nth v 2) (nth v 3)) Plain))
+recordShape linkedCode =
+    shape
+    (Anything ∷ number ∷ number ∷ number ∷ number ∷ Number 0 0 BadType ∷ Number 1 externalType BadType ∷ number ∷ [])
+    (λ v. Code (codeWord (wordOf (nth v 1) (nth v 2) (nth v 3) (nth v 4)) (relocationOf (nth v 6) (nth v 7))))
+recordShape absoluteEntry = shape (Name ∷ number ∷ Number 0 1 BadType ∷ []) (λ v. Entered (entry (nth v 0) (nth v 1) false 0))
+recordShape relocatedEntry =
+    shape (Name ∷ number ∷ Number 0 1 BadType ∷ number ∷ []) (λ v. Entered (entry (nth v 0) (nth v 1) true (nth v 3)))
+recordShape external = shape (Name ∷ []) (λ v. Mentioned (nth v 0))
+recordShape openingTitle = shape (Name ∷ []) (λ v. Opening (nth v 0))
+recordShape closingTitle = shape (Name ∷ []) (λ v. Closing (nth v 0))
+recordShape dataRecord = shape (number ∷ number ∷ []) (λ v. Ignored)
+recordShape initRecord = shape (Anything ∷ Anything ∷ Anything ∷ Anything ∷ Anything ∷ []) (λ v. Ignored)
+recordShape parameterRecord = shape (number ∷ number ∷ Number 0 mostSubRecords BadNumber ∷ []) (λ v. Parameter (nth v 2))
+recordShape subRecord = shape (number ∷ number ∷ []) (λ v. Sub)
 
 -- is the first field an asterisk
 abbrev pub starred : List Field → Bool
 starred fs = sameText (firstText fs) (42 ∷ [])
 
+abbrev pub readRecord : Record → ℕ → List Field → LineAnswer
+readRecord r end fs = readAs (recordShape r) end fs
+
 -- "A code record is four numbers, the quarters; or an asterisk field, four quarters, then 0, type and arg."
 unfoldable pub codeLine : ℕ → List Field → LineAnswer
-codeLine end fs =
-    cond
-    (starred fs)
-    (said
-    (λ v. Code (codeWord (wordOf (nth v 1) (nth v 2) (nth v 3) (nth v 4)) (relocationOf (nth v 6) (nth v 7))))
-    (fit
-    end
-    (Anything ∷ number ∷ number ∷ number ∷ number ∷ Number 0 0 BadType ∷ Number 1 5 BadType ∷ number ∷ [])
-    fs))
-    (said
-    (λ v. Code (codeWord (wordOf (nth v 0) (nth v 1) (nth v 2) (nth v 3)) Plain))
-    (fit end (number ∷ number ∷ number ∷ number ∷ []) fs))
-
-abbrev pub entry : ℕ → ℕ → Bool → ℕ → Entry
-entry n v r p = record { name = n; value = v; relocated = r; parameters = p }
+codeLine end fs = readRecord (cond (starred fs) linkedCode plainCode) end fs
 
 unfoldable pub isOne : Option ℕ → Bool
 isOne none = false
@@ -192,33 +222,25 @@ textAt fs k = getD fs k (record { column = 0; text = [] }) .text
 
 -- "symbol value 0, or symbol value 1 paramnum"
 unfoldable pub entryLine : ℕ → List Field → LineAnswer
-entryLine end fs =
-    cond
-    (isOne (numberOf (textAt fs 2)))
-    (said
-    (λ v. Entered (entry (nth v 0) (nth v 1) true (nth v 3)))
-    (fit end (Name ∷ number ∷ Number 0 1 BadType ∷ number ∷ []) fs))
-    (said (λ v. Entered (entry (nth v 0) (nth v 1) false 0)) (fit end (Name ∷ number ∷ Number 0 1 BadType ∷ []) fs))
+entryLine end fs = readRecord (cond (isOne (numberOf (textAt fs 2))) relocatedEntry absoluteEntry) end fs
 
--- what the fields of a line say, by what is wanted
-unfoldable pub fieldsSay : Wanted → ℕ → List Field → LineAnswer
+-- what the fields of a line say, by what is expected
+unfoldable pub fieldsSay : Expected → ℕ → List Field → LineAnswer
 fieldsSay AnyHeader end fs = headerLine end fs
-fieldsSay OpeningTitle end fs = said (λ v. Opening (nth v 0)) (fit end (Name ∷ []) fs)
-fieldsSay ClosingTitle end fs = said (λ v. Closing (nth v 0)) (fit end (Name ∷ []) fs)
+fieldsSay OpeningTitle end fs = readRecord openingTitle end fs
+fieldsSay ClosingTitle end fs = readRecord closingTitle end fs
 fieldsSay CodeRecord end fs = codeLine end fs
 fieldsSay EntryRecord end fs = entryLine end fs
-fieldsSay ExternalRecord end fs = said (λ v. Mentioned (nth v 0)) (fit end (Name ∷ []) fs)
-fieldsSay DataRecord end fs = said (λ v. Ignored) (fit end (number ∷ number ∷ []) fs)
-fieldsSay InitRecord end fs =
-    said (λ v. Ignored) (fit end (Anything ∷ Anything ∷ Anything ∷ Anything ∷ Anything ∷ []) fs)
-fieldsSay ParameterRecord end fs =
-    said (λ v. Parameter (nth v 2)) (fit end (number ∷ number ∷ Number 0 7 BadNumber ∷ []) fs)
-fieldsSay SubRecord end fs = said (λ v. Sub) (fit end (number ∷ number ∷ []) fs)
+fieldsSay ExternalRecord end fs = readRecord external end fs
+fieldsSay DataRecord end fs = readRecord dataRecord end fs
+fieldsSay InitRecord end fs = readRecord initRecord end fs
+fieldsSay ParameterRecord end fs = readRecord parameterRecord end fs
+fieldsSay SubRecord end fs = readRecord subRecord end fs
 
 -- ---- the whole line
 
 -- "A line with no field is skipped but counted"
-unfoldable pub lineOf : Wanted → ℕ → List Field → LineAnswer
+unfoldable pub lineOf : Expected → ℕ → List Field → LineAnswer
 lineOf w end [] = Blank
 lineOf w end (f ∷ fs) = fieldsSay w end (f ∷ fs)
 
@@ -241,6 +263,6 @@ unfoldable pub testBytes : ℕ → ℕ → LineAnswer → LineAnswer
 testBytes front size answer =
     cond (leb size front) answer (cond (faultWithin front answer) answer (Bad (fault IllegalByte (front + 1))))
 
--- what a line says, given what is wanted of it
-unfoldable pub lineAnswer : Wanted → List ℕ → LineAnswer
-lineAnswer w line = testBytes (legalFront 80 line) (length line) (lineOf w (length line + 1) (fieldsOf line))
+-- what a line says, given what is expected of it
+unfoldable pub lineAnswer : Expected → List ℕ → LineAnswer
+lineAnswer w line = testBytes (legalFront longestLine line) (length line) (lineOf w (length line + 1) (fieldsOf line))

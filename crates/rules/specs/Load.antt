@@ -5,32 +5,37 @@ use mathlib.Core.List.{List, [], _∷_, _++_, map}
 use lib.ListN.{length}
 use lib.Dec.{eqb, ltb}
 use Rattle.rules.specs.Text.{any}
+use Rattle.rules.specs.Answers.{DONE, DUPLICATE}
 use Rattle.rules.specs.Reading.{Module, Item, free, section, readingOf, itemsOf}
 use Rattle.rules.specs.State.{State, marked, broken, isUndefined}
 use Rattle.rules.specs.Placing.{entries, entryName, placingFault, placed, twice}
 use Rattle.rules.specs.Search.{Found, search}
+use Rattle.rules.specs.declared.answer.Refusal.{Refusal}
 use Rattle.rules.specs.declared.reading.Reading.{Reading}
 use Rattle.rules.specs.declared.reading.Reading.the-variants.{Complete, Stopped}
 
--- how far a walk has come: the number and line of its refusal, 0 where there is none, and the state
+-- a refusal, with its line
+abbrev pub refusal : ℕ → ℕ → Refusal
+refusal k n = record { number = k; line = n }
+
+-- how far a walk has come: its refusal, which is 0 at line 0 where there is none, and the state
 pub record Walk : Type 0 where
-  pub number : ℕ
-  pub line : ℕ
+  pub refusal : Refusal
   pub state : State
 
-abbrev pub walking : State → Walk
-walking s = record { number = 0; line = 0; state = s }
+abbrev pub walk : Refusal → State → Walk
+walk r s = record { refusal = r; state = s }
 
-abbrev pub refusedAt : ℕ → ℕ → State → Walk
-refusedAt k n s = record { number = k; line = n; state = s }
+abbrev pub walking : State → Walk
+walking s = walk (refusal DONE 0) s
 
 abbrev pub accepted : Walk → Bool
-accepted w = eqb (w .number) 0
+accepted w = eqb (w .refusal .number) DONE
 
 -- a module in turn: refused at the line of its TITLE header, or placed
 unfoldable pub tryPlace : State → Module → Walk
 tryPlace s m =
-    cond (eqb (placingFault s m) 0) (walking (placed s m)) (refusedAt (placingFault s m) (m .line) s)
+    cond (eqb (placingFault s m) DONE) (walking (placed s m)) (walk (refusal (placingFault s m) (m .line)) s)
 
 -- a walk that is refused stays as it is
 unfoldable pub place : Walk → Module → Walk
@@ -40,15 +45,16 @@ unfoldable pub entryNames : Module → List ℕ
 entryNames m = map entryName (entries m)
 
 -- "A module is taken if one of its entries is undefined in the table at that moment."
-unfoldable pub wanted : State → Module → Bool
-wanted s m = any (λ x. isUndefined x (s .symbols)) (entryNames m)
+unfoldable pub isNeeded : State → Module → Bool
+isNeeded s m = any (λ x. isUndefined x (s .symbols)) (entryNames m)
 
-unfoldable pub wants : Walk → Module → Bool
-wants w m = accepted w && wanted (w .state) m
+-- a walk that is refused takes nothing
+unfoldable pub takes : Walk → Module → Bool
+takes w m = accepted w && isNeeded (w .state) m
 
 -- the search of a section
 unfoldable pub searched : List Module → Walk → Found Walk
-searched ms w = search wants place ms w
+searched ms w = search takes place ms w
 
 -- the names of all entries of a section
 unfoldable pub sectionNames : List Module → List ℕ
@@ -57,7 +63,7 @@ sectionNames (m ∷ ms) = entryNames m ++ sectionNames ms
 
 -- "at each library first any name that is an entry twice in the section (13, line of the LSB header)"
 unfoldable pub testSection : ℕ → List Module → Walk → Walk
-testSection line ms w = cond (accepted w && twice (sectionNames ms)) (refusedAt 13 line (w .state)) w
+testSection line ms w = cond (accepted w && twice (sectionNames ms)) (walk (refusal DUPLICATE line) (w .state)) w
 
 -- a walk and the rounds of its searches
 pub record Progress : Type 0 where
@@ -83,26 +89,25 @@ walkFrom s is = walkItems (progress (walking s) 0) is
 
 -- ---- the load
 
--- a load's number, line and rounds, and the state afterwards
+-- a load's refusal and rounds, and the state afterwards
 pub record Loaded : Type 0 where
-  pub number : ℕ
-  pub line : ℕ
+  pub refusal : Refusal
   pub rounds : ℕ
   pub state : State
 
-abbrev pub loadRefused : ℕ → ℕ → State → Loaded
-loadRefused k n s = record { number = k; line = n; rounds = 0; state = s }
+abbrev pub loaded : Refusal → ℕ → State → Loaded
+loaded r n s = record { refusal = r; rounds = n; state = s }
 
 -- "LOAD refused by 6 to 14 sets the broken mark."; the state is otherwise as it was
 unfoldable pub walked : State → Progress → Loaded
 walked s p =
     cond
     (accepted (p .walk))
-    (record { number = 0; line = 0; rounds = p .rounds; state = p .walk .state })
-    (loadRefused (p .walk .number) (p .walk .line) (marked broken s))
+    (loaded (refusal DONE 0) (p .rounds) (p .walk .state))
+    (loaded (p .walk .refusal) 0 (marked broken s))
 
 unfoldable pub loadRead : State → List ℕ → Reading → Loaded
-loadRead s file (Stopped k n c) = loadRefused k n (marked broken s)
+loadRead s file (Stopped k n c) = loaded (refusal k n) 0 (marked broken s)
 loadRead s file Complete = walked s (walkFrom s (itemsOf file))
 
 -- "then the whole file is read [..] Then the walk"

@@ -4,9 +4,11 @@ use mathlib.Core.Bool.{Bool, true, false, cond, not, _&&_, _||_}
 use mathlib.Core.List.{List, [], _∷_, _++_, map}
 use lib.ListN.{length, getD, set}
 use lib.Dec.{eqb, leb, ltb}
+use Rattle.rules.specs.Limits.{programWords, mostSymbols, largestNumber}
 use Rattle.rules.specs.Text.{any}
+use Rattle.rules.specs.Answers.{DONE, ROOM, OVERLAP, ARG, RANGE, DUPLICATE, TABLE}
 use Rattle.rules.specs.Reading.{Module}
-use Rattle.rules.specs.State.{Symbol, symbol, nameIs, isDefined, placeOf, Word, unplaced, plain, refers, isPlaced, State, state}
+use Rattle.rules.specs.State.{Symbol, symbol, nameIs, isDefined, positionOf, Word, unplaced, plain, refers, isPlaced, State, state}
 use Rattle.rules.specs.declared.line.Entry.{Entry}
 use Rattle.rules.specs.declared.line.CodeWord.{CodeWord}
 use Rattle.rules.specs.declared.line.Relocation.{Relocation}
@@ -114,30 +116,34 @@ externalName xs k = getD xs (k - 1) 0
 -- how a code word stands in memory: only an external's refers to a symbol
 unfoldable pub linked : List ℕ → List Symbol → ℕ → Relocation → Word
 linked xs t text Plain = plain text
-linked xs t text (External k) = refers text (placeOf (externalName xs k) t)
+linked xs t text (External k) = refers text (positionOf (externalName xs k) t)
 linked xs t text (Unread type) = plain text
 
 -- "Each code word goes to base plus offset plus its place."
+abbrev pub addressAt : ℕ → Code → ℕ
+addressAt base c = base + c .address
+
 unfoldable pub putAll : ℕ → List ℕ → List Symbol → List Code → List Word → List Word
 putAll base xs t [] ws = ws
 putAll base xs t (c ∷ cs) ws =
-    putAll base xs t cs (set ws (base + c .address) (linked xs t (c .word .text) (c .word .relocation)))
+    putAll base xs t cs (set ws (addressAt base c) (linked xs t (c .word .text) (c .word .relocation)))
 
 -- ---- the tests, in order
 
 -- 9 ROOM: "base plus length over 4,096"
 unfoldable pub noRoom : State → Module → Bool
-noRoom s m = ltb 4096 (s .next + moduleLength m)
+noRoom s m = ltb programWords (s .next + moduleLength m)
 
--- is one of the words placed already when its turn comes
-unfoldable pub clash : ℕ → List Code → List Word → Bool
-clash base [] ws = false
-clash base (c ∷ cs) ws =
-    isPlaced (getD ws (base + c .address) unplaced) || clash base cs (set ws (base + c .address) (plain 0))
+-- does a number stand twice: an address, or a name
+unfoldable pub twice : List ℕ → Bool
+twice [] = false
+twice (x ∷ xs) = any (eqb x) xs || twice xs
 
 -- 10 OVERLAP: "a word would be placed twice"
 unfoldable pub overlaps : State → Module → Bool
-overlaps s m = clash (s .next) (code m) (s .words)
+overlaps s m =
+    let addresses = map (addressAt (s .next)) (code m) in
+    twice addresses || any (λ a. isPlaced (getD (s .words) a unplaced)) addresses
 
 unfoldable pub badArgument : ℕ → Relocation → Bool
 badArgument n Plain = false
@@ -150,12 +156,7 @@ badArguments m = any (λ c. badArgument (length (externals m)) (c .word .relocat
 
 -- 12 RANGE: "relocated entry over 65,535"
 unfoldable pub outOfRange : State → Module → Bool
-outOfRange s m = any (λ e. e .relocated && ltb 65535 (e .value + s .next)) (entries m)
-
--- does a name stand twice
-unfoldable pub twice : List ℕ → Bool
-twice [] = false
-twice (x ∷ xs) = any (eqb x) xs || twice xs
+outOfRange s m = any (λ e. e .relocated && ltb largestNumber (e .value + s .next)) (entries m)
 
 -- 13 DUPLICATE: "a second entry of one name"
 unfoldable pub duplicates : State → Module → Bool
@@ -165,14 +166,15 @@ duplicates s m =
 
 -- 14 TABLE: "over 256 symbols"
 unfoldable pub tableFull : State → Module → Bool
-tableFull s m = ltb 256 (length (joined (s .next) m (s .symbols)))
+tableFull s m = ltb mostSymbols (length (joined (s .next) m (s .symbols)))
 
 -- "per placed module 9 to 14 as numbered", 0 where none applies
 unfoldable pub placingFault : State → Module → ℕ
 placingFault s m =
-    cond (noRoom s m) 9
-    (cond (overlaps s m) 10
-    (cond (badArguments m) 11 (cond (outOfRange s m) 12 (cond (duplicates s m) 13 (cond (tableFull s m) 14 0)))))
+    cond (noRoom s m) ROOM
+    (cond (overlaps s m) OVERLAP
+    (cond (badArguments m) ARG
+    (cond (outOfRange s m) RANGE (cond (duplicates s m) DUPLICATE (cond (tableFull s m) TABLE DONE)))))
 
 -- "Its base is the next address. [..] The next address grows by the length"
 unfoldable pub placed : State → Module → State

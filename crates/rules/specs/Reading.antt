@@ -3,15 +3,17 @@ use Prim.Native.Nat.{ℕ, suc, _+_, _-_}
 use mathlib.Core.Bool.{Bool, true, false, cond, not, _&&_, _||_}
 use mathlib.Core.List.{List, [], _∷_, _++_}
 use lib.Dec.{eqb, leb, ltb}
+use Rattle.rules.specs.Limits.{mostEntries, mostExternals, mostModules}
 use Rattle.rules.specs.Text.{linesOf}
+use Rattle.rules.specs.Answers.{LINE, PLACE, LIST}
 use Rattle.rules.specs.Line.{lineAnswer}
 use Rattle.rules.specs.declared.line.Fault.{Fault}
 use Rattle.rules.specs.declared.line.CodeWord.{CodeWord}
 use Rattle.rules.specs.declared.line.Entry.{Entry}
 use Rattle.rules.specs.declared.line.Header.{Header}
 use Rattle.rules.specs.declared.line.Header.the-variants.{CodeBlock, EndBlock, TitleBlock, EntryBlock, ExternalBlock, LibraryStart, LibraryEnd, DataBlock, InitBlock, ParameterBlock}
-use Rattle.rules.specs.declared.line.Wanted.{Wanted}
-use Rattle.rules.specs.declared.line.Wanted.the-variants.{AnyHeader, OpeningTitle, ClosingTitle, CodeRecord, EntryRecord, ExternalRecord, DataRecord, InitRecord, ParameterRecord, SubRecord}
+use Rattle.rules.specs.declared.line.Expected.{Expected}
+use Rattle.rules.specs.declared.line.Expected.the-variants.{AnyHeader, OpeningTitle, ClosingTitle, CodeRecord, EntryRecord, ExternalRecord, DataRecord, InitRecord, ParameterRecord, SubRecord}
 use Rattle.rules.specs.declared.line.LineAnswer.{LineAnswer}
 use Rattle.rules.specs.declared.line.LineAnswer.the-variants.{Bad, Blank, Head, Opening, Closing, Code, Entered, Mentioned, Ignored, Parameter, Sub}
 use Rattle.rules.specs.declared.reading.OpenBlock.{OpenBlock}
@@ -27,8 +29,8 @@ use Rattle.rules.specs.declared.reading.Reading.the-variants.{Complete, 
 
 -- ---- where the reading stands
 
-abbrev pub mode : Wanted → OpenBlock → OpenModule → OpenSection → Mode
-mode w b o s = record { wanted = w; block = b; object = o; section = s }
+abbrev pub mode : Expected → OpenBlock → OpenModule → OpenSection → Mode
+mode w b o s = record { expected = w; block = b; object = o; section = s }
 
 abbrev pub openBlock : ℕ → ℕ → ℕ → ℕ → OpenBlock
 openBlock o c r s = record { offset = o; count = c; remaining = r; subs = s }
@@ -44,16 +46,16 @@ unfoldable pub atStart : Mode
 atStart = mode AnyHeader (openBlock 0 0 0 0) (openModule false 0 0 0 0) (openSection false 0 0)
 
 -- the next line has to be w
-unfoldable pub want : Wanted → Mode → Mode
-want w m = mode w (m .block) (m .object) (m .section)
+unfoldable pub expect : Expected → Mode → Mode
+expect w m = mode w (m .block) (m .object) (m .section)
 
 -- a block's records follow, if it has any
-unfoldable pub wantRecords : Wanted → ℕ → ℕ → Mode → Mode
-wantRecords w offset count m =
+unfoldable pub expectRecords : Expected → ℕ → ℕ → Mode → Mode
+expectRecords w offset count m =
     mode (cond (eqb count 0) AnyHeader w) (openBlock offset count count 0) (m .object) (m .section)
 
 -- a record of kind w is read: the block's next one follows, or a header
-unfoldable pub recordDone : Wanted → Mode → Mode
+unfoldable pub recordDone : Expected → Mode → Mode
 recordDone w m =
     mode
     (cond (leb (m .block .remaining) 1) AnyHeader w)
@@ -62,8 +64,8 @@ recordDone w m =
     (m .section)
 
 -- sub-records of the open parameter record follow
-unfoldable pub wantSubs : ℕ → Mode → Mode
-wantSubs size m =
+unfoldable pub expectSubs : ℕ → Mode → Mode
+expectSubs size m =
     mode SubRecord (openBlock (m .block .offset) (m .block .count) (m .block .remaining) size) (m .object) (m .section)
 
 -- a TITLE header at line n: in a section it counts one more module
@@ -97,20 +99,20 @@ leaveSection m = mode AnyHeader (m .block) (m .object) (openSection false 0 0)
 unfoldable pub countEntry : Mode → Mode
 countEntry m =
     let o = m .object in
-    mode (m .wanted) (m .block) (openModule (o .inside) (o .title) (o .line) (o .entries + 1) (o .externals)) (m .section)
+    mode (m .expected) (m .block) (openModule (o .inside) (o .title) (o .line) (o .entries + 1) (o .externals)) (m .section)
 
 unfoldable pub countExternal : Mode → Mode
 countExternal m =
     let o = m .object in
-    mode (m .wanted) (m .block) (openModule (o .inside) (o .title) (o .line) (o .entries) (o .externals + 1)) (m .section)
+    mode (m .expected) (m .block) (openModule (o .inside) (o .title) (o .line) (o .entries) (o .externals + 1)) (m .section)
 
 -- ---- what a line does
 
 abbrev pub misplaced : Step
-misplaced = Stop 7 0
+misplaced = Stop PLACE 0
 
 abbrev pub listFull : Step
-listFull = Stop 8 0
+listFull = Stop LIST 0
 
 -- "Block 3 opens a module [..] neither 3, 6 nor 7 stands inside"; a 257th module of a section is told here
 unfoldable pub titleStep : ℕ → Mode → Step
@@ -118,7 +120,7 @@ titleStep n m =
     cond
     (m .object .inside)
     misplaced
-    (cond (m .section .inside && leb 256 (m .section .modules)) listFull (Next (titleHeader n m)))
+    (cond (m .section .inside && leb mostModules (m .section .modules)) listFull (Next (titleHeader n m)))
 
 -- "Libraries don't nest, and 7 stands only in one."
 unfoldable pub libraryStep : ℕ → Mode → Step
@@ -132,16 +134,16 @@ abbrev pub insideModule : Mode → Step → Step
 insideModule m s = cond (m .object .inside) s misplaced
 
 unfoldable pub headerStep : ℕ → Mode → Header → Step
-headerStep n m (CodeBlock count offset) = insideModule m (Add (wantRecords CodeRecord offset count m) (BlockPart offset count))
-headerStep n m EndBlock = insideModule m (Next (want ClosingTitle m))
+headerStep n m (CodeBlock count offset) = insideModule m (Add (expectRecords CodeRecord offset count m) (BlockPart offset count))
+headerStep n m EndBlock = insideModule m (Next (expect ClosingTitle m))
 headerStep n m TitleBlock = titleStep n m
-headerStep n m (EntryBlock count) = insideModule m (Next (wantRecords EntryRecord 0 count m))
-headerStep n m (ExternalBlock count) = insideModule m (Next (wantRecords ExternalRecord 0 count m))
+headerStep n m (EntryBlock count) = insideModule m (Next (expectRecords EntryRecord 0 count m))
+headerStep n m (ExternalBlock count) = insideModule m (Next (expectRecords ExternalRecord 0 count m))
 headerStep n m LibraryStart = libraryStep n m
 headerStep n m LibraryEnd = libraryEndStep m
-headerStep n m (DataBlock count) = insideModule m (Next (wantRecords DataRecord 0 count m))
-headerStep n m (InitBlock count) = insideModule m (Next (wantRecords InitRecord 0 count m))
-headerStep n m (ParameterBlock count) = insideModule m (Next (wantRecords ParameterRecord 0 count m))
+headerStep n m (DataBlock count) = insideModule m (Next (expectRecords DataRecord 0 count m))
+headerStep n m (InitBlock count) = insideModule m (Next (expectRecords InitRecord 0 count m))
+headerStep n m (ParameterBlock count) = insideModule m (Next (expectRecords ParameterRecord 0 count m))
 
 -- "block 1 closes it with the same title"
 unfoldable pub closingStep : Mode → ℕ → Step
@@ -149,12 +151,12 @@ closingStep m t = cond (eqb t (m .object .title)) (CloseModule (leaveModule m) (
 
 -- "entries per module 64 (blocks 4 and 13 together)"
 unfoldable pub entryStep : Mode → Entry → Step
-entryStep m e = cond (ltb (m .object .entries) 64) (Add (recordDone EntryRecord (countEntry m)) (EntryPart e)) listFull
+entryStep m e = cond (ltb (m .object .entries) mostEntries) (Add (recordDone EntryRecord (countEntry m)) (EntryPart e)) listFull
 
 -- "externals per module 64"
 unfoldable pub externalStep : Mode → ℕ → Step
 externalStep m x =
-    cond (ltb (m .object .externals) 64) (Add (recordDone ExternalRecord (countExternal m)) (ExternalPart x)) listFull
+    cond (ltb (m .object .externals) mostExternals) (Add (recordDone ExternalRecord (countExternal m)) (ExternalPart x)) listFull
 
 -- a code word's place in its block is the number of records before it
 abbrev pub wordPart : Mode → CodeWord → Part
@@ -162,15 +164,15 @@ wordPart m w = WordPart (m .block .offset + (m .block .count - m .block .remaini
 
 -- "then size sub-records"
 unfoldable pub parameterStep : Mode → ℕ → Step
-parameterStep m size = Next (cond (eqb size 0) (recordDone ParameterRecord m) (wantSubs size m))
+parameterStep m size = Next (cond (eqb size 0) (recordDone ParameterRecord m) (expectSubs size m))
 
 unfoldable pub subStep : Mode → Step
 subStep m =
-    Next (cond (leb (m .block .subs) 1) (recordDone ParameterRecord m) (wantSubs (m .block .subs - 1) m))
+    Next (cond (leb (m .block .subs) 1) (recordDone ParameterRecord m) (expectSubs (m .block .subs - 1) m))
 
 -- line n, and what it says, where the reading stands at m
 unfoldable pub stepOf : ℕ → Mode → LineAnswer → Step
-stepOf n m (Bad f) = Stop 6 (f .column)
+stepOf n m (Bad f) = Stop LINE (f .column)
 stepOf n m Blank = Next m
 stepOf n m (Head h) = headerStep n m h
 stepOf n m (Opening t) = Next (enterModule t m)
@@ -178,47 +180,12 @@ stepOf n m (Closing t) = closingStep m t
 stepOf n m (Code w) = Add (recordDone CodeRecord m) (wordPart m w)
 stepOf n m (Entered e) = entryStep m e
 stepOf n m (Mentioned x) = externalStep m x
-stepOf n m Ignored = Next (recordDone (m .wanted) m)
+stepOf n m Ignored = Next (recordDone (m .expected) m)
 stepOf n m (Parameter size) = parameterStep m size
 stepOf n m Sub = subStep m
 
 abbrev pub stepAt : ℕ → Mode → List ℕ → Step
-stepAt n m line = stepOf n m (lineAnswer (m .wanted) line)
-
--- ---- the fault of a file
-
-unfoldable pub isHeader : Wanted → Bool
-isHeader AnyHeader = true
-isHeader OpeningTitle = false
-isHeader ClosingTitle = false
-isHeader CodeRecord = false
-isHeader EntryRecord = false
-isHeader ExternalRecord = false
-isHeader DataRecord = false
-isHeader InitRecord = false
-isHeader ParameterRecord = false
-isHeader SubRecord = false
-
--- "file ends inside something": 7, "at the last line number plus one"
-unfoldable pub atEnd : ℕ → Mode → Reading
-atEnd n m =
-    cond (isHeader (m .wanted) && not (m .object .inside || m .section .inside)) Complete (Stopped 7 n 0)
-
-unfoldable pub onward : ℕ → Step → (Mode → Reading) → Reading
-onward n (Stop k c) go = Stopped k n c
-onward n (Next m) go = go m
-onward n (Add m p) go = go m
-onward n (CloseModule m line) go = go m
-onward n (CloseSection m line) go = go m
-
--- the lines from line n on, where the reading stands at m
-unfoldable pub readFrom : ℕ → Mode → List (List ℕ) → Reading
-readFrom n m [] = atEnd n m
-readFrom n m (l ∷ ls) = onward n (stepAt n m l) (λ m′. readFrom (n + 1) m′ ls)
-
--- "the whole file is read, and the earliest line with 6, 7 or 8 decides"
-unfoldable pub readingOf : List ℕ → Reading
-readingOf file = readFrom 1 atStart (linesOf file)
+stepAt n m line = stepOf n m (lineAnswer (m .expected) line)
 
 -- ---- what a file holds
 
@@ -235,22 +202,78 @@ pub data Item : Type 0 where
 abbrev pub moduleAt : ℕ → List Part → Module
 moduleAt n ps = record { line = n; parts = ps }
 
+-- ---- the whole file
+
+-- how far the reading has come: the number of the line that comes next, where it stands, the parts of the open module, the modules
+-- of the open section, the items that are complete; and its fault, Complete while there is none
+pub record ReadSoFar : Type 0 where
+  pub line : ℕ
+  pub mode : Mode
+  pub parts : List Part
+  pub modules : List Module
+  pub items : List Item
+  pub fault : Reading
+
+abbrev pub readSoFar : ℕ → Mode → List Part → List Module → List Item → Reading → ReadSoFar
+readSoFar n m ps ms is f = record { line = n; mode = m; parts = ps; modules = ms; items = is; fault = f }
+
+-- "Lines count from 1"
+unfoldable pub unread : ReadSoFar
+unread = readSoFar 1 atStart [] [] [] Complete
+
+-- on to the next line
+abbrev pub onward : ReadSoFar → Mode → List Part → List Module → List Item → ReadSoFar
+onward r m ps ms is = readSoFar (r .line + 1) m ps ms is Complete
+
 -- a module is complete: one more of the open section, or a free one
-unfoldable pub moduleDone : Bool → Module → Mode → List Module → (Mode → List Part → List Module → List Item) → List Item
-moduleDone true md m ms go = go m [] (ms ++ (md ∷ []))
-moduleDone false md m ms go = free md ∷ go m [] ms
+unfoldable pub moduleDone : ReadSoFar → Bool → Mode → Module → ReadSoFar
+moduleDone r true m md = onward r m [] (r .modules ++ (md ∷ [])) (r .items)
+moduleDone r false m md = onward r m [] (r .modules) (r .items ++ (free md ∷ []))
 
-unfoldable pub gather : Step → List Part → List Module → (Mode → List Part → List Module → List Item) → List Item
-gather (Stop k c) ps ms go = []
-gather (Next m) ps ms go = go m ps ms
-gather (Add m p) ps ms go = go m (ps ++ (p ∷ [])) ms
-gather (CloseModule m line) ps ms go = moduleDone (m .section .inside) (moduleAt line ps) m ms go
-gather (CloseSection m line) ps ms go = section line ms ∷ go m [] []
+-- what a line's step does
+unfoldable pub stepped : ReadSoFar → Step → ReadSoFar
+stepped r (Stop k c) = readSoFar (r .line) (r .mode) (r .parts) (r .modules) (r .items) (Stopped k (r .line) c)
+stepped r (Next m) = onward r m (r .parts) (r .modules) (r .items)
+stepped r (Add m p) = onward r m (r .parts ++ (p ∷ [])) (r .modules) (r .items)
+stepped r (CloseModule m line) = moduleDone r (m .section .inside) m (moduleAt line (r .parts))
+stepped r (CloseSection m line) = onward r m [] [] (r .items ++ (section line (r .modules) ∷ []))
 
--- the lines from line n on, after the parts of the open module and the modules of the open section
-unfoldable pub itemsFrom : ℕ → Mode → List Part → List Module → List (List ℕ) → List Item
-itemsFrom n m ps ms [] = []
-itemsFrom n m ps ms (l ∷ ls) = gather (stepAt n m l) ps ms (λ m′ ps′ ms′. itemsFrom (n + 1) m′ ps′ ms′ ls)
+unfoldable pub ifComplete : {A : Type 0} → Reading → A → A → A
+ifComplete Complete x y = x
+ifComplete (Stopped k n c) x y = y
 
+-- after a fault nothing more is read
+unfoldable pub readLine : ReadSoFar → List ℕ → ReadSoFar
+readLine r l = ifComplete (r .fault) (stepped r (stepAt (r .line) (r .mode) l)) r
+
+unfoldable pub readLines : ReadSoFar → List (List ℕ) → ReadSoFar
+readLines r [] = r
+readLines r (l ∷ ls) = readLines (readLine r l) ls
+
+unfoldable pub isHeader : Expected → Bool
+isHeader AnyHeader = true
+isHeader OpeningTitle = false
+isHeader ClosingTitle = false
+isHeader CodeRecord = false
+isHeader EntryRecord = false
+isHeader ExternalRecord = false
+isHeader DataRecord = false
+isHeader InitRecord = false
+isHeader ParameterRecord = false
+isHeader SubRecord = false
+
+-- "file ends inside something": 7, "at the last line number plus one"
+unfoldable pub atEnd : ℕ → Mode → Reading
+atEnd n m =
+    cond (isHeader (m .expected) && not (m .object .inside || m .section .inside)) Complete (Stopped PLACE n 0)
+
+abbrev pub ended : ReadSoFar → Reading
+ended r = ifComplete (r .fault) (atEnd (r .line) (r .mode)) (r .fault)
+
+-- "the whole file is read, and the earliest line with 6, 7 or 8 decides"
+unfoldable pub readingOf : List ℕ → Reading
+readingOf file = ended (readLines unread (linesOf file))
+
+-- what a file holds, or holds up to the line of its fault
 unfoldable pub itemsOf : List ℕ → List Item
-itemsOf file = itemsFrom 1 atStart [] [] (linesOf file)
+itemsOf file = readLines unread (linesOf file) .items

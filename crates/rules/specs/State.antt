@@ -4,6 +4,7 @@ use mathlib.Core.Bool.{Bool, true, false, cond, not, _&&_, _||_}
 use mathlib.Core.List.{List, [], _∷_}
 use lib.ListN.{length, getD, replicate}
 use lib.Dec.{eqb, leb, ltb}
+use Rattle.rules.specs.Limits.{programWords, mostSymbols, largestNumber, noAddress}
 use Rattle.rules.specs.Text.{all, any, isPacked}
 
 -- a symbol of the table: its packed name, its value, and whether it has an entry
@@ -15,7 +16,7 @@ pub record Symbol : Type 0 where
 abbrev pub symbol : ℕ → ℕ → Bool → Symbol
 symbol n v d = record { name = n; value = v; defined = d }
 
--- a program word: not placed, or placed with its text and perhaps a reference to a symbol by its place in the table
+-- a program word: not placed, or placed with its text and perhaps a reference to a symbol by its position in the table
 pub data Word : Type 0 where
   unplaced : Word
   plain : ℕ → Word
@@ -36,7 +37,7 @@ state t ws n k = record { symbols = t; words = ws; next = n; mark = k }
 
 -- "Program addresses 0 to 4,095."
 unfoldable pub noWords : List Word
-noWords = replicate 4096 unplaced
+noWords = replicate programWords unplaced
 
 -- "the fresh state: no symbols, no words, next address 0, no marks"
 unfoldable pub fresh : State
@@ -60,10 +61,10 @@ isDefined x t = any (λ s. nameIs x s && s .defined) t
 unfoldable pub isUndefined : ℕ → List Symbol → Bool
 isUndefined x t = any (λ s. nameIs x s && not (s .defined)) t
 
--- a symbol's place in the table, its length where there is none
-unfoldable pub placeOf : ℕ → List Symbol → ℕ
-placeOf x [] = 0
-placeOf x (s ∷ t) = cond (nameIs x s) 0 (placeOf x t + 1)
+-- a symbol's position in the table, its length where there is none
+unfoldable pub positionOf : ℕ → List Symbol → ℕ
+positionOf x [] = 0
+positionOf x (s ∷ t) = cond (nameIs x s) 0 (positionOf x t + 1)
 
 unfoldable pub undefinedOnly : List Symbol → List Symbol
 undefinedOnly [] = []
@@ -92,17 +93,17 @@ highestFrom i a so-far [] = so-far
 highestFrom i a so-far (w ∷ ws) = highestFrom i (a + 1) (cond (refersTo i w) a so-far) ws
 
 unfoldable pub highest : ℕ → List Word → ℕ
-highest i ws = highestFrom i 0 65535 ws
+highest i ws = highestFrom i 0 noAddress ws
 
 -- "HIGH, the next address less one, or 65,535 when that address is 0"
 unfoldable pub high : State → ℕ
-high s = cond (eqb (s .next) 0) 65535 (s .next - 1)
+high s = cond (eqb (s .next) 0) noAddress (s .next - 1)
 
 -- ---- soundness
 
 -- "names are legal", "undefined values are 0"; a value is a number of sixteen bits
 unfoldable pub soundSymbol : Symbol → Bool
-soundSymbol s = isPacked (s .name) && (leb (s .value) 65535 && (s .defined || eqb (s .value) 0))
+soundSymbol s = isPacked (s .name) && (leb (s .value) largestNumber && (s .defined || eqb (s .value) 0))
 
 -- "names are [..] different"
 unfoldable pub differentNames : List Symbol → Bool
@@ -118,7 +119,7 @@ soundWord n (refers x i) = ltb x (2 ^ 64) && ltb i n
 -- "counts and the next address are in their limits"; "it isn't both broken and frozen" by the type Mark
 unfoldable pub sound : State → Bool
 sound s =
-    leb (length (s .symbols)) 256
+    leb (length (s .symbols)) mostSymbols
     && (all soundSymbol (s .symbols)
     && (differentNames (s .symbols)
-    && (eqb (length (s .words)) 4096 && (all (soundWord (length (s .symbols))) (s .words) && leb (s .next) 4096))))
+    && (eqb (length (s .words)) programWords && (all (soundWord (length (s .symbols))) (s .words) && leb (s .next) programWords))))

@@ -3,10 +3,11 @@ use Prim.Native.Nat.{ℕ, zero, suc, _+_, _-_, _*_, _/_, _%_, _^_}
 use Prim.Native.Char.{Char, code}
 use Prim.Native.String.{String, [] as none-left, _∷_ as _then_}
 use mathlib.Core.Bool.{Bool, true, false, cond, not, _&&_, _||_}
-use mathlib.Core.List.{List, [], _∷_}
+use mathlib.Core.List.{List, [], _∷_, map}
 use mathlib.Core.Option.{Option, none, some}
 use lib.ListN.{length, getD}
 use lib.Dec.{eqb, leb, ltb}
+use Rattle.rules.specs.Limits.{mostDigits, largestNumber, longestName}
 
 -- a quoted text as bytes
 unfoldable pub bytes : String → List ℕ
@@ -35,24 +36,34 @@ any p (x ∷ xs) = p x || any p xs
 
 -- ---- lines
 
--- does the text start with an LF
-unfoldable pub startsLF : List ℕ → Bool
-startsLF [] = false
-startsLF (b ∷ rest) = eqb b LF
-
 -- a byte in front of the first line
 unfoldable pub widenLine : ℕ → List (List ℕ) → List (List ℕ)
 widenLine b [] = (b ∷ []) ∷ []
 widenLine b (l ∷ ls) = (b ∷ l) ∷ ls
 
--- a byte in front of a text with these lines: an LF ends a line, and a CR just before an LF is dropped
-unfoldable pub addToLines : ℕ → Bool → List (List ℕ) → List (List ℕ)
-addToLines b lf ls = cond (eqb b LF) ([] ∷ ls) (cond (eqb b CR && lf) ls (widenLine b ls))
+-- "Lines end in LF [..] the last line may lack LF. [..] nothing after a final LF is a line.": a text cut behind each LF
+unfoldable pub cutLines : List ℕ → List (List ℕ)
+cutLines [] = []
+cutLines (b ∷ rest) = let more = cutLines rest in cond (eqb b LF) ((b ∷ []) ∷ more) (widenLine b more)
 
--- "Lines end in LF; one CR just before it is dropped; the last line may lack LF. [..] nothing after a final LF is a line."
+unfoldable pub sameText : List ℕ → List ℕ → Bool
+sameText [] [] = true
+sameText [] (c ∷ cs) = false
+sameText (b ∷ bs) [] = false
+sameText (b ∷ bs) (c ∷ cs) = eqb b c && sameText bs cs
+
+-- is this the end of a line: "one CR just before it is dropped"
+abbrev pub isLineEnd : List ℕ → Bool
+isLineEnd l = sameText l (LF ∷ []) || sameText l (CR ∷ LF ∷ [])
+
+-- a line without its end
+unfoldable pub withoutEnd : List ℕ → List ℕ
+withoutEnd [] = []
+withoutEnd (b ∷ rest) = let more = withoutEnd rest in cond (isLineEnd (b ∷ rest)) [] (b ∷ more)
+
+-- the lines of a file, without their ends
 unfoldable pub linesOf : List ℕ → List (List ℕ)
-linesOf [] = []
-linesOf (b ∷ rest) = addToLines b (startsLF rest) (linesOf rest)
+linesOf file = map withoutEnd (cutLines file)
 
 -- "line at most 80 bytes without its end", "Other bytes are 32 to 126": how many legal bytes stand at a line's front, at most n
 unfoldable pub legalFront : ℕ → List ℕ → ℕ
@@ -103,7 +114,7 @@ octal v (d ∷ ds) = octal (v * 8 + (d - 48)) ds
 
 -- "Numbers in files are octal, one to six digits, at most 177777 (65,535)."
 unfoldable pub isNumber : List ℕ → Bool
-isNumber ds = between 1 6 (length ds) && (all isOctal ds && leb (octal 0 ds) 0o177777)
+isNumber ds = between 1 mostDigits (length ds) && (all isOctal ds && leb (octal 0 ds) largestNumber)
 
 unfoldable pub numberOf : List ℕ → Option ℕ
 numberOf ds = cond (isNumber ds) (some (octal 0 ds)) none
@@ -118,7 +129,7 @@ isLetterOrDigit b = isLetter b || between 48 57 b
 
 -- "Names are 1 to 6 characters, A to Z and 0 to 9, the first a letter."
 unfoldable pub isName : List ℕ → Bool
-isName cs = between 1 6 (length cs) && (isLetter (getD cs 0 0) && all isLetterOrDigit cs)
+isName cs = between 1 longestName (length cs) && (isLetter (getD cs 0 0) && all isLetterOrDigit cs)
 
 -- A name is kept as one number: its six bytes in base 256, the first highest, 0 where it is shorter.
 unfoldable pub packName : List ℕ → ℕ

@@ -1,4 +1,47 @@
-// The answers of the calls: document 01's number and line, then what the call gives; all else is 0 in a refusal.
+// What the calls answer.
+
+// Document 01's numbers. specs/Answers.antt has them with their names.
+pub const DONE: u64 = 0;
+
+pub const BUFFER: u64 = 1;
+
+pub const DAMAGED: u64 = 2;
+
+pub const RESET: u64 = 3;
+
+pub const FROZEN: u64 = 4;
+
+pub const TOO_LONG: u64 = 5;
+
+pub const LINE: u64 = 6;
+
+pub const PLACE: u64 = 7;
+
+pub const LIST: u64 = 8;
+
+pub const ROOM: u64 = 9;
+
+pub const OVERLAP: u64 = 10;
+
+pub const ARG: u64 = 11;
+
+pub const RANGE: u64 = 12;
+
+pub const DUPLICATE: u64 = 13;
+
+pub const TABLE: u64 = 14;
+
+pub const NAME: u64 = 15;
+
+pub const OUT: u64 = 16;
+
+// Why a load goes no further: a number of document 01 and a line of the file; both are 0 where it goes on.
+pub struct Refusal {
+    pub number: u64,
+    pub line: u64,
+}
+
+// The answers: document 01's number and line, then what the call gives; all else is 0 in a refusal.
 
 #[repr(C)]
 pub struct LoadAnswer {

@@ -70,7 +70,7 @@ pub enum Header {
 }
 
 // What the next line of a file has to be, where it has a field.
-pub enum Wanted {
+pub enum Expected {
     AnyHeader,
     OpeningTitle,
     ClosingTitle,
@@ -83,7 +83,7 @@ pub enum Wanted {
     SubRecord,
 }
 
-// What a line says, given what was wanted of it: a variant for each thing that can be wanted.
+// What a line says, given what was expected of it: a variant for each thing that can be expected.
 pub enum LineAnswer {
     Bad(Fault),
     Blank,

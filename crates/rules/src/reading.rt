@@ -1,7 +1,7 @@
 // The reading of a file, line by line.
 use crate::line::CodeWord;
 use crate::line::Entry;
-use crate::line::Wanted;
+use crate::line::Expected;
 
 // The block whose records are being read: its offset and count, how many of its records are to come, and how many
 // sub-records of the open parameter record.
@@ -31,7 +31,7 @@ pub struct OpenSection {
 
 // Where the reading stands between two lines, and what the next line has to be.
 pub struct Mode {
-    pub wanted: Wanted,
+    pub expected: Expected,
     pub block: OpenBlock,
     pub object: OpenModule,
     pub section: OpenSection,
@@ -50,7 +50,7 @@ pub enum Part {
 // What a line does to the reading.
 pub enum Step {
     // Answer 6, 7 or 8, at a column (0 where none is named).
-    Stop { number: u16, column: usize },
+    Stop { number: u64, column: usize },
     Next(Mode),
     // The next mode, with one part of the open module.
     Add(Mode, Part),
@@ -63,7 +63,7 @@ pub enum Step {
 pub enum Reading {
     Complete,
     Stopped {
-        number: u16,
+        number: u64,
         line: u32,
         column: usize,
     },

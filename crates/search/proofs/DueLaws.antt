@@ -15,7 +15,7 @@ use Rattle.rules.specs.Reading.{Module}
 use Rattle.rules.specs.State.{Symbol, nameIs, isUndefined}
 use Rattle.rules.specs.Placing.{placingFault, placed, joined}
 use Rattle.rules.specs.Calls.{bit}
-use Rattle.rules.specs.Load.{Walk, walking, refusedAt, entryNames, wanted, tryPlace, place}
+use Rattle.rules.specs.Load.{Walk, walking, refusedAt, entryNames, isNeeded, tryPlace, place}
 use Rattle.rules.proofs.BoolLaws.{never, or-off, eqb-same, any-append}
 use Rattle.tables.specs.Tables.{moduleIn}
 use Rattle.state.specs.Layout.{decode}
@@ -169,18 +169,18 @@ module _ (parts rows : List ℕ) (first n : ℕ) where
   pub idle-start : {fault : ℕ} {index cells before due : List ℕ} → Owns parts rows first n index →
       Raised parts index (λ x. isUndefined x (drop 0 (decode cells .symbols))) before due →
       Idle parts rows first n fault index cells due
-  unfolding wanted
+  unfolding isNeeded
   idle-start o w =
       record {
         size = w .size;
         owns = λ _. o;
-        unwanted = λ z i l e. any-off _ (namesAt i) (clear-fails o w i l e);
+        unneeded = λ z i l e. any-off _ (namesAt i) (clear-fails o w i l e);
       }
 
   -- in a walk that is refused already
   pub idle-refused : {fault : ℕ} {index cells due : List ℕ} → length due ≡ 256 → fault ≢ 0 →
       Idle parts rows first n fault index cells due
-  idle-refused z f = record { size = z; owns = λ e. absurd (f e); unwanted = λ e. absurd (f e) }
+  idle-refused z f = record { size = z; owns = λ e. absurd (f e); unneeded = λ e. absurd (f e) }
 
   -- a module that was placed
   placed-symbols : {m : Module} {fault line : ℕ} {before : List ℕ} {r : Told} {after : List ℕ} → fault ≡ 0 →
@@ -215,12 +215,12 @@ module _ (parts rows : List ℕ) (first n : ℕ) where
       known ≡ length (decode before .symbols) →
       Raised parts index (λ x. isUndefined x (drop known (decode after .symbols))) due raised →
       Idle parts rows first n (r .fault) index after raised
-  unfolding wanted
+  unfolding isNeeded
   idle-next {m} {fault} {line} {before} {r} {index} {after} {due} {raised} {known} z d p k v =
       record {
         size = v .size;
         owns = λ _. d .owns z;
-        unwanted = λ e i l q. any-off _ (namesAt i) (λ y h. go e i l q y h (isUndefined y (decode after .symbols)) refl);
+        unneeded = λ e i l q. any-off _ (namesAt i) (λ y h. go e i l q y h (isUndefined y (decode after .symbols)) refl);
       }
     where
       grown : r .fault ≡ 0 → (y : ℕ) → isUndefined y (decode after .symbols) ≡ true →
@@ -238,7 +238,7 @@ module _ (parts rows : List ℕ) (first n : ℕ) where
       either : (i : ℕ) → i < n → getD raised i 0 ≡ 0 → (y : ℕ) → any (eqb y) (namesAt i) ≡ true →
           (isUndefined y (decode before .symbols) ≡ true) ⊎ (isUndefined y (drop known (decode after .symbols)) ≡ true) → {A : Type 0} → A
       either i l q y h (inl u) =
-          never u (off-at (λ x. isUndefined x (decode before .symbols)) (namesAt i) y (d .unwanted z i l (v .kept i q)) h)
+          never u (off-at (λ x. isUndefined x (decode before .symbols)) (namesAt i) y (d .unneeded z i l (v .kept i q)) h)
       either i l q y h (inr u) = never u (clear-fails (d .owns z) v i l q y h)
 
       go : r .fault ≡ 0 → (i : ℕ) → i < n → getD raised i 0 ≡ 0 → (y : ℕ) → any (eqb y) (namesAt i) ≡ true →

@@ -1,4 +1,4 @@
--- Whether one module of the tables is wanted.
+-- Whether one module of the tables is needed.
 use Prim.Native.Nat.{ℕ, _+_, _-_, _*_, _/_, _%_, _<_, _≤_, min, max}
 use native.Mathlib.Omega.{arith}
 use mathlib.Core.Bool.{Bool, true, false, cond, _&&_, _||_}
@@ -12,7 +12,7 @@ use Rattle.rules.specs.Text.{any}
 use Rattle.rules.specs.Reading.{moduleAt}
 use Rattle.rules.specs.State.{State, isUndefined}
 use Rattle.rules.specs.Placing.{entriesIn, entryName}
-use Rattle.rules.specs.Load.{entryNames, wanted}
+use Rattle.rules.specs.Load.{entryNames, isNeeded}
 use Rattle.rules.specs.declared.reading.Part.{Part}
 use Rattle.tables.specs.Tables.{partsOf, bodyIn, startIn, endIn, cellsIn}
 use Rattle.parts.specs.Cells.{partsFrom, isEntry}
@@ -25,8 +25,8 @@ use Rattle.parts.proofs.PassLaws.{names-next, turned}
 abbrev pub wantedFrom : State → List Part → Bool
 wantedFrom s ps = any (λ x. isUndefined x (s .symbols)) (namesIn ps)
 
-pub wanted-is : (s : State) (n : ℕ) (ps : List Part) → wanted s (moduleAt n ps) ≡ wantedFrom s ps
-unfolding wanted entryNames
+pub wanted-is : (s : State) (n : ℕ) (ps : List Part) → isNeeded s (moduleAt n ps) ≡ wantedFrom s ps
+unfolding isNeeded entryNames
 wanted-is s n ps = refl
 
 module _ (s : State) (cells : List ℕ) (i : ℕ) where

@@ -9,8 +9,8 @@ use lib.ListN.{length, getD, replicate}
 use lib.Dec.{eqb}
 use borrow.Author.Tests.{eq-eqb, ne-eqb}
 use Rattle.rules.specs.Reading.{Module}
-use Rattle.rules.specs.Search.{Places, nowhere, Sweep, Found, found, roundMore, round, search}
-use Rattle.rules.specs.Load.{Walk, wants, place, searched}
+use Rattle.rules.specs.Search.{ModuleSet, noModules, Sweep, Found, found, roundMore, round, search}
+use Rattle.rules.specs.Load.{Walk, takes, place, searched}
 use Rattle.rules.proofs.SearchLaws.{count, count-most, round-took}
 use Rattle.rules.proofs.FuelLaws.{roundsFrom, rounds-turn}
 use Rattle.tables.specs.Tables.{modulesIn}
@@ -20,7 +20,7 @@ use Rattle.search.specs.Searching.{Agrees, setOf, RoundIs, Rounded, Soug
 use Rattle.search.specs.declared.rounds.Round.{Round}
 use Rattle.search.proofs.SweepLaws.{same-places}
 
-found-same : {t t′ : Places} {n n′ : ℕ} {x x′ : Walk} → t ≡ t′ → n ≡ n′ → x ≡ x′ → found t n x ≡ found t′ n′ x′
+found-same : {t t′ : ModuleSet} {n n′ : ℕ} {x x′ : Walk} → t ≡ t′ → n ≡ n′ → x ≡ x′ → found t n x ≡ found t′ n′ x′
 found-same p q r = λ j. found (p j) (q j) (r j)
 
 pub length-modules : (parts rows : List ℕ) (i n : ℕ) → length (modulesIn parts rows i n) ≡ n
@@ -36,8 +36,8 @@ clear-flag zero j = refl
 clear-flag (suc n) zero = refl
 clear-flag (suc n) (suc j) = clear-flag n j
 
-clear : (n : ℕ) → setOf (replicate n false) ≡ nowhere
-unfolding nowhere
+clear : (n : ℕ) → setOf (replicate n false) ≡ noModules
+unfolding noModules
 clear n = same-places (clear-flag n)
 
 -- a round flags as many modules as it took
@@ -49,7 +49,7 @@ round-counts {ms} {n} e {flags} {fault} {line} {cells} {r} q =
     let d = q .does w (record { number = refl; line-is = refl; state-is = λ _. refl }) in
     subst (λ k. count (setOf (r .flags)) k ≡ count (setOf flags) k + r .took) e
     (ap (λ t. count t (length ms)) (d .taken-is)
-    ∙ round-took wants place ms (setOf flags) w
+    ∙ round-took takes place ms (setOf flags) w
     ∙ ap (λ k. count (setOf flags) (length ms) + k) (sym (d .took-is)))
 
 -- ---- the search
@@ -63,7 +63,7 @@ module _ (ms : List Module) where
         here = w;
         agrees = a;
         is =
-            ap (λ t. later 0 (roundsFrom wants place ms t w)) (clear n)
+            ap (λ t. later 0 (roundsFrom takes place ms t w)) (clear n)
             ∙ found-same refl (omega arith) refl;
       }
 
@@ -73,29 +73,29 @@ module _ (ms : List Module) where
         Seeking f ms (k + 1) (r .took) (r .flags) (r .fault) (r .line) after
     seek-next h {r} q =
         let d = q .does (l .here) (l .agrees) in
-        let s = round wants place ms (setOf flags) (l .here) in
+        let s = round takes place ms (setOf flags) (l .here) in
         record {
           here = s .now;
           agrees = d .agrees;
           is =
               ap₂
-              (λ n t. cond (eqb n 0) (found t (k + 1) (s .now)) (later (k + 1) (roundsFrom wants place ms t (s .now))))
+              (λ n t. cond (eqb n 0) (found t (k + 1) (s .now)) (later (k + 1) (roundsFrom takes place ms t (s .now))))
               (d .took-is)
               (d .taken-is)
-              ∙ go (eqb (s .took) 0) (s .taken) (s .now) (roundsFrom wants place ms (s .taken) (s .now))
-              ∙ ap (later k) (sym (rounds-turn wants place ms (setOf flags) (l .here)))
-              ∙ sym (ap (λ b. cond b (found (setOf flags) k (l .here)) (later k (roundsFrom wants place ms (setOf flags) (l .here)))) (ne-eqb took 0 (omega arith)))
+              ∙ go (eqb (s .took) 0) (s .taken) (s .now) (roundsFrom takes place ms (s .taken) (s .now))
+              ∙ ap (later k) (sym (rounds-turn takes place ms (setOf flags) (l .here)))
+              ∙ sym (ap (λ b. cond b (found (setOf flags) k (l .here)) (later k (roundsFrom takes place ms (setOf flags) (l .here)))) (ne-eqb took 0 (omega arith)))
               ∙ l .is;
         }
       where
-        go : (b : Bool) (t : Places) (x : Walk) (more : Found Walk) →
+        go : (b : Bool) (t : ModuleSet) (x : Walk) (more : Found Walk) →
             cond b (found t (k + 1) x) (later (k + 1) more) ≡ later k (cond b (found t 1 x) (roundMore more))
         go true t x more = found-same refl (omega arith) refl
         go false t x more = found-same refl (omega arith) refl
 
     seek-end : took ≤ 0 → found (setOf flags) k (l .here) ≡ f
     seek-end h =
-        sym (ap (λ b. cond b (found (setOf flags) k (l .here)) (later k (roundsFrom wants place ms (setOf flags) (l .here)))) (eq-eqb took 0 (omega arith)))
+        sym (ap (λ b. cond b (found (setOf flags) k (l .here)) (later k (roundsFrom takes place ms (setOf flags) (l .here)))) (eq-eqb took 0 (omega arith)))
         ∙ l .is
 
     pub seek-rounds : took ≤ 0 → k ≡ f .rounds

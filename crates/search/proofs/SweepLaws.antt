@@ -9,8 +9,8 @@ use lib.Seq.{getD-set-same, getD-set-other, set-getD}
 use lib.Dec.{eqb}
 use borrow.Author.Tests.{eqb-true, eqb-false}
 use Rattle.rules.specs.Reading.{Module}
-use Rattle.rules.specs.Search.{Places, with, Sweep, sweepOf, visit, sweep, round}
-use Rattle.rules.specs.Load.{Walk, wanted, wants, place}
+use Rattle.rules.specs.Search.{ModuleSet, withModule, Sweep, sweepOf, visit, sweep, round}
+use Rattle.rules.specs.Load.{Walk, isNeeded, takes, place}
 use Rattle.tables.specs.Tables.{moduleIn, modulesIn}
 use Rattle.state.specs.Layout.{decode}
 use Rattle.state.specs.Good.{Good}
@@ -39,11 +39,11 @@ module _ (parts rows : List ℕ) (first n i : ℕ) where
 
 -- ---- a flag set is a place more
 
-pub same-places : {p q : Places} → ((j : ℕ) → p j ≡ q j) → p ≡ q
+pub same-places : {p q : ModuleSet} → ((j : ℕ) → p j ≡ q j) → p ≡ q
 same-places h = λ k j. h j k
 
-flag-set : (flags : List Bool) (i : ℕ) → i < length flags → setOf (set flags i true) ≡ with i (setOf flags)
-unfolding with
+flag-set : (flags : List Bool) (i : ℕ) → i < length flags → setOf (set flags i true) ≡ withModule i (setOf flags)
+unfolding withModule
 flag-set flags i h = same-places (λ j. go j (eqb i j) refl)
   where
     go : (j : ℕ) (b : Bool) → eqb i j ≡ b → getD (set flags i true) j false ≡ (b || getD flags j false)
@@ -52,7 +52,7 @@ flag-set flags i h = same-places (λ j. go j (eqb i j) refl)
         ap (λ k. getD (set flags i true) k false) (sym same) ∙ getD-set-same flags i true false h
     go j false e = getD-set-other flags i j true false (λ q. eqb-false i j e (sym q))
 
-sweep-same : {t t′ : Places} {n n′ : ℕ} {x x′ : Walk} → t ≡ t′ → n ≡ n′ → x ≡ x′ → sweepOf t n x ≡ sweepOf t′ n′ x′
+sweep-same : {t t′ : ModuleSet} {n n′ : ℕ} {x x′ : Walk} → t ≡ t′ → n ≡ n′ → x ≡ x′ → sweepOf t n x ≡ sweepOf t′ n′ x′
 sweep-same p q r = λ j. sweepOf (p j) (q j) (r j)
 
 -- ---- a visit
@@ -60,15 +60,15 @@ sweep-same p q r = λ j. sweepOf (p j) (q j) (r j)
 module _ (m : Module) (i k : ℕ) (flags : List Bool) (h : i < length flags) (w : Walk) {r : Turn} {after : List ℕ}
     (t : Turned m (getD flags i false) w r after) where
   abbrev settled : Bool
-  settled = getD flags i false || not (wants w m)
+  settled = getD flags i false || not (takes w m)
 
-  visit-is : visit wants place i m (sweepOf (setOf flags) k w)
+  visit-is : visit takes place i m (sweepOf (setOf flags) k w)
       ≡ sweepOf (setOf (set flags i (r .flag))) (k + r .took) (cond settled w (place w m))
   unfolding visit
-  visit-is = go (getD flags i false) (wants w m) refl (t .flag-is) (t .took-is)
+  visit-is = go (getD flags i false) (takes w m) refl (t .flag-is) (t .took-is)
     where
       go : (f d : Bool) → getD flags i false ≡ f → r .flag ≡ (f || d) → r .took ≡ cond (f || not d) 0 1 →
-          cond (f || not d) (sweepOf (setOf flags) k w) (sweepOf (with i (setOf flags)) (k + 1) (place w m))
+          cond (f || not d) (sweepOf (setOf flags) k w) (sweepOf (withModule i (setOf flags)) (k + 1) (place w m))
           ≡ sweepOf (setOf (set flags i (r .flag))) (k + r .took) (cond (f || not d) w (place w m))
       go true d e p q =
           sweep-same (ap setOf (sym (ap (set flags i) (p ∙ sym e) ∙ set-getD flags i false))) (omega arith) refl
@@ -85,7 +85,7 @@ module _ (parts rows : List ℕ) (first n : ℕ) where
   from i = modulesIn parts rows (first + i) (n - i)
 
   pub swept-start : (flags : List Bool) (w : Walk) {fault line : ℕ} {cells : List ℕ} → Agrees w fault line cells →
-      Swept (round wants place (modulesIn parts rows first n) (setOf flags) w) 0 0 (from 0) flags fault line cells
+      Swept (round takes place (modulesIn parts rows first n) (setOf flags) w) 0 0 (from 0) flags fault line cells
   unfolding round
   swept-start flags w a =
       let begin : first + 0 ≡ first = omega arith in
@@ -93,7 +93,7 @@ module _ (parts rows : List ℕ) (first n : ℕ) where
       record {
         here = w;
         agrees = a;
-        is = ap₂ (λ i k. sweep wants place 0 (modulesIn parts rows i k) (sweepOf (setOf flags) 0 w)) begin whole;
+        is = ap₂ (λ i k. sweep takes place 0 (modulesIn parts rows i k) (sweepOf (setOf flags) 0 w)) begin whole;
       }
 
   module _ {s : Sweep Walk} {i k : ℕ} {flags : List Bool} {fault line : ℕ} {cells : List ℕ}
@@ -106,17 +106,17 @@ module _ (parts rows : List ℕ) (first n : ℕ) where
         let t = v .does (l .here) (l .agrees) in
         let m = moduleIn parts rows (first + i) in
         record {
-          here = cond (getD flags i false || not (wants (l .here) m)) (l .here) (place (l .here) m);
+          here = cond (getD flags i false || not (takes (l .here) m)) (l .here) (place (l .here) m);
           agrees = t .agrees;
           is =
-              ap (sweep wants place (i + 1) (from (i + 1))) (sym (visit-is m i k flags h (l .here) t))
-              ∙ ap (λ ms. sweep wants place i ms (sweepOf (setOf flags) k (l .here))) (sym (modules-next parts rows first n i b))
+              ap (sweep takes place (i + 1) (from (i + 1))) (sym (visit-is m i k flags h (l .here) t))
+              ∙ ap (λ ms. sweep takes place i ms (sweepOf (setOf flags) k (l .here))) (sym (modules-next parts rows first n i b))
               ∙ l .is;
         }
 
-    -- a module that is not wanted is passed by
+    -- a module that is not needed is passed by
     pub swept-idle : i < n → i < length flags → Good cells →
-        (fault ≡ 0 → wanted (decode cells) (moduleIn parts rows (first + i)) ≡ false) →
+        (fault ≡ 0 → isNeeded (decode cells) (moduleIn parts rows (first + i)) ≡ false) →
         Swept s (i + 1) k (from (i + 1)) flags fault line cells
     swept-idle b h g u =
         let m = moduleIn parts rows (first + i) in
@@ -133,5 +133,5 @@ module _ (parts rows : List ℕ) (first n : ℕ) where
     unfolding sweep
     swept-done h =
         subst (λ v. RoundIs v (record { flags = flags; took = k; fault = fault; line = line }) cells)
-        (ap (λ ms. sweep wants place i ms (sweepOf (setOf flags) k (l .here))) (sym (modules-done parts rows first n i h)) ∙ l .is)
+        (ap (λ ms. sweep takes place i ms (sweepOf (setOf flags) k (l .here))) (sym (modules-done parts rows first n i h)) ∙ l .is)
         (record { taken-is = refl; took-is = refl; agrees = l .agrees })

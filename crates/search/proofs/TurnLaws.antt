@@ -11,14 +11,14 @@ use borrow.Author.Tests.{eq-eqb, ne-eqb, eqb-true, eqb-false, not-true, not-fals
 use Rattle.rules.specs.Reading.{Module, moduleAt}
 use Rattle.rules.specs.State.{State}
 use Rattle.rules.specs.Placing.{externals, externalsIn, placingFault, placed}
-use Rattle.rules.specs.Load.{Walk, walking, refusedAt, accepted, tryPlace, place, wanted, wants}
+use Rattle.rules.specs.Load.{Walk, walking, refusedAt, accepted, tryPlace, place, isNeeded, takes}
 use Rattle.rules.proofs.BoolLaws.{never}
 use Rattle.tables.specs.Tables.{partsOf, lineIn, startIn, endIn, cellsIn, moduleIn}
 use Rattle.state.specs.Layout.{decode}
 use Rattle.state.specs.Good.{Good}
 use Rattle.placing.specs.Effects.{Tried}
 use Rattle.placing.proofs.PlaceLaws.{any-line}
-use Rattle.search.specs.Searching.{Agrees, PlacedRow, takes, Turned, Visited}
+use Rattle.search.specs.Searching.{Agrees, PlacedRow, shouldTake, Turned, Visited}
 use Rattle.search.specs.declared.taking.Told.{Told}
 use Rattle.search.specs.declared.taking.Turn.{Turn}
 use Rattle.search.proofs.ModuleLaws.{wanted-is}
@@ -37,9 +37,9 @@ module _ (parts rows : List ℕ) (row : ℕ) {cells : List ℕ}
       Tried s (moduleIn parts rows row) r after
   tried-row {s} {r} {after} t = subst (λ m. Tried s m r after) (sym module-is) (any-line t)
 
-  pub wanted-row : (s : State) {r : Bool} → r ≡ wanted s (moduleAt 0 (partsOf cells)) → r ≡ wanted s (moduleIn parts rows row)
+  pub wanted-row : (s : State) {r : Bool} → r ≡ isNeeded s (moduleAt 0 (partsOf cells)) → r ≡ isNeeded s (moduleIn parts rows row)
   wanted-row s e =
-      e ∙ wanted-is s 0 (partsOf cells) ∙ sym (wanted-is s (lineIn rows row) (partsOf cells)) ∙ ap (wanted s) (sym module-is)
+      e ∙ wanted-is s 0 (partsOf cells) ∙ sym (wanted-is s (lineIn rows row) (partsOf cells)) ∙ ap (isNeeded s) (sym module-is)
 
   pub line-row : moduleIn parts rows row .line ≡ lineIn rows row
   unfolding moduleIn
@@ -93,7 +93,7 @@ module _ {m : Module} {fault line : ℕ} {before : List ℕ} where
 -- ---- visiting
 
 -- a visit, by what it finds: b of the flag, d of the walk
-turn-is : {m : Module} {flag : Bool} {w : Walk} {r : Turn} {after : List ℕ} (b d : Bool) → flag ≡ b → wants w m ≡ d →
+turn-is : {m : Module} {flag : Bool} {w : Walk} {r : Turn} {after : List ℕ} (b d : Bool) → flag ≡ b → takes w m ≡ d →
     r .flag ≡ (b || d) → r .took ≡ cond (b || not d) 0 1 →
     Agrees (cond (b || not d) w (place w m)) (r .fault) (r .line) after → Turned m flag w r after
 turn-is {m} {flag} {w} {r} {after} b d e f p q a =
@@ -103,50 +103,50 @@ turn-is {m} {flag} {w} {r} {after} b d e f p q a =
       agrees = subst (λ v. Agrees v (r .fault) (r .line) after) (sym (ap₂ (λ x y. cond (x || not y) w (place w m)) e f)) a;
     }
 
--- what a walk wants, in the words of the code
+-- what a walk needs, in the words of the code
 wants-is : {w : Walk} {fault line : ℕ} {before : List ℕ} → Agrees w fault line before → (m : Module) →
-    wants w m ≡ (eqb fault 0 && wanted (decode before) m)
-unfolding wants
+    takes w m ≡ (eqb fault 0 && isNeeded (decode before) m)
+unfolding takes
 wants-is {w} {fault} {line} {before} a m = go (eqb fault 0) refl
   where
-    go : (b : Bool) → eqb fault 0 ≡ b → (accepted w && wanted (w .state) m) ≡ (b && wanted (decode before) m)
-    go true e = rw (goes-on a (eqb-true fault 0 e)) (ap (λ s. wanted s m) (sym (a .state-is (eqb-true fault 0 e))))
+    go : (b : Bool) → eqb fault 0 ≡ b → (accepted w && isNeeded (w .state) m) ≡ (b && isNeeded (decode before) m)
+    go true e = rw (goes-on a (eqb-true fault 0 e)) (ap (λ s. isNeeded s m) (sym (a .state-is (eqb-true fault 0 e))))
     go false e = rw (stands a (eqb-false fault 0 e))
 
--- a module that is not wanted is not taken
-pub unwanted-left : (m : Module) (flag : Bool) {fault : ℕ} (cells : List ℕ) → (fault ≡ 0 → wanted (decode cells) m ≡ false) →
-    false ≡ takes flag fault cells m
-unfolding takes
+-- a module that is not needed is not taken
+pub unwanted-left : (m : Module) (flag : Bool) {fault : ℕ} (cells : List ℕ) → (fault ≡ 0 → isNeeded (decode cells) m ≡ false) →
+    false ≡ shouldTake flag fault cells m
+unfolding shouldTake
 unwanted-left m flag {fault} cells u = go flag (eqb fault 0) refl
   where
-    go : (b d : Bool) → eqb fault 0 ≡ d → false ≡ (not b && (d && wanted (decode cells) m))
+    go : (b d : Bool) → eqb fault 0 ≡ d → false ≡ (not b && (d && isNeeded (decode cells) m))
     go true d e = refl
     go false true e = sym (u (eqb-true fault 0 e))
     go false false e = refl
 
 -- a walk that takes a module goes on
-pub taken-goes-on : (m : Module) (flag : Bool) {fault : ℕ} (before : List ℕ) {r : Bool} → r ≡ takes flag fault before m → not r ≡ false →
+pub taken-goes-on : (m : Module) (flag : Bool) {fault : ℕ} (before : List ℕ) {r : Bool} → r ≡ shouldTake flag fault before m → not r ≡ false →
     fault ≡ 0
-unfolding takes
+unfolding shouldTake
 taken-goes-on m flag {fault} before {r} q n = go flag (eqb fault 0) refl (sym q ∙ not-false r n)
   where
-    go : (b d : Bool) → eqb fault 0 ≡ d → (not b && (d && wanted (decode before) m)) ≡ true → fault ≡ 0
+    go : (b d : Bool) → eqb fault 0 ≡ d → (not b && (d && isNeeded (decode before) m)) ≡ true → fault ≡ 0
     go true d e h = never h refl
     go false true e h = eqb-true fault 0 e
     go false false e h = never h refl
 
-module _ {m : Module} {flag : Bool} {fault line : ℕ} {before : List ℕ} {r : Bool} (q : r ≡ takes flag fault before m) where
+module _ {m : Module} {flag : Bool} {fault line : ℕ} {before : List ℕ} {r : Bool} (q : r ≡ shouldTake flag fault before m) where
   pub visit-left : Good before → not r ≡ true →
       Visited m flag fault line before (record { flag = flag; took = 0; fault = fault; line = line }) before
-  unfolding takes
+  unfolding shouldTake
   visit-left g n =
       record {
         good = g;
         most = omega arith;
-        does = λ w a. go flag (eqb fault 0 && wanted (decode before) m) refl (wants-is a m) (sym q ∙ not-true r n) a;
+        does = λ w a. go flag (eqb fault 0 && isNeeded (decode before) m) refl (wants-is a m) (sym q ∙ not-true r n) a;
       }
     where
-      go : (b d : Bool) → flag ≡ b → {w : Walk} → wants w m ≡ d → (not b && d) ≡ false → Agrees w fault line before →
+      go : (b d : Bool) → flag ≡ b → {w : Walk} → takes w m ≡ d → (not b && d) ≡ false → Agrees w fault line before →
           Turned m flag w (record { flag = flag; took = 0; fault = fault; line = line }) before
       go true d e f p a = turn-is true d e f e refl a
       go false true e f p a = never refl p
@@ -154,17 +154,17 @@ module _ {m : Module} {flag : Bool} {fault line : ℕ} {before : List ℕ} {r : 
 
   pub visit-placed : not r ≡ false → {t : Told} {after : List ℕ} → PlacedRow m fault line before t after →
       Visited m flag fault line before (record { flag = true; took = 1; fault = t .fault; line = t .line }) after
-  unfolding takes
+  unfolding shouldTake
   visit-placed n {t} {after} p =
       record {
         good = p .good;
         most = omega arith;
         does =
             λ w a.
-            go flag (eqb fault 0 && wanted (decode before) m) refl (wants-is a m) (sym q ∙ not-false r n) (p .does w a);
+            go flag (eqb fault 0 && isNeeded (decode before) m) refl (wants-is a m) (sym q ∙ not-false r n) (p .does w a);
       }
     where
-      go : (b d : Bool) → flag ≡ b → {w : Walk} → wants w m ≡ d → (not b && d) ≡ true →
+      go : (b d : Bool) → flag ≡ b → {w : Walk} → takes w m ≡ d → (not b && d) ≡ true →
           Agrees (place w m) (t .fault) (t .line) after →
           Turned m flag w (record { flag = true; took = 1; fault = t .fault; line = t .line }) after
       go true d e f h a = never h refl

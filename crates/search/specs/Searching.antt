@@ -7,8 +7,8 @@ use lib.ListN.{length, getD}
 use lib.Dec.{eqb}
 use Rattle.rules.specs.Reading.{Module}
 use Rattle.rules.specs.Placing.{externals}
-use Rattle.rules.specs.Search.{Places, Sweep, sweepOf, Found, found, sweep, round, rounds}
-use Rattle.rules.specs.Load.{Walk, wanted, wants, place, searched}
+use Rattle.rules.specs.Search.{ModuleSet, Sweep, sweepOf, Found, found, sweep, round, rounds}
+use Rattle.rules.specs.Load.{Walk, isNeeded, takes, place, searched}
 use Rattle.tables.specs.Tables.{moduleIn}
 use Rattle.state.specs.Layout.{decode}
 use Rattle.state.specs.Good.{Good}
@@ -35,15 +35,15 @@ pub record PlacedRow (m : Module) (fault line : ℕ) (before : List ℕ) (r : To
   pub good : Good after
   pub does : (w : Walk) → Agrees w fault line before → Agrees (place w m) (r .fault) (r .line) after
 
--- is the module in turn: it is not taken, and the walk goes on and wants it
-unfoldable pub takes : Bool → ℕ → List ℕ → Module → Bool
-takes flag fault cells m = not flag && (eqb fault 0 && wanted (decode cells) m)
+-- is the module in turn: it is not taken, and the walk goes on and needs it
+unfoldable pub shouldTake : Bool → ℕ → List ℕ → Module → Bool
+shouldTake flag fault cells m = not flag && (eqb fault 0 && isNeeded (decode cells) m)
 
 -- a visit by a walk: whether the module is taken afterwards, how many were taken now, and how the walk goes on
 pub record Turned (m : Module) (flag : Bool) (w : Walk) (r : Turn) (after : List ℕ) : Type 0 where
-  pub flag-is : r .flag ≡ (flag || wants w m)
-  pub took-is : r .took ≡ cond (flag || not (wants w m)) 0 1
-  pub agrees : Agrees (cond (flag || not (wants w m)) w (place w m)) (r .fault) (r .line) after
+  pub flag-is : r .flag ≡ (flag || takes w m)
+  pub took-is : r .took ≡ cond (flag || not (takes w m)) 0 1
+  pub agrees : Agrees (cond (flag || not (takes w m)) w (place w m)) (r .fault) (r .line) after
 
 pub record Visited (m : Module) (flag : Bool) (fault line : ℕ) (before : List ℕ) (r : Turn) (after : List ℕ) : Type 0 where
   pub good : Good after
@@ -53,7 +53,7 @@ pub record Visited (m : Module) (flag : Bool) (fault line : ℕ) (before : List 
 -- ---- a round, and the rounds of a section
 
 -- the flags of the taken modules as a set
-abbrev pub setOf : List Bool → Places
+abbrev pub setOf : List Bool → ModuleSet
 setOf flags i = getD flags i false
 
 pub record RoundIs (s : Sweep Walk) (r : Round) (after : List ℕ) : Type 0 where
@@ -64,13 +64,13 @@ pub record RoundIs (s : Sweep Walk) (r : Round) (after : List ℕ) : Type 0 wher
 pub record Rounded (ms : List Module) (flags : List Bool) (fault line : ℕ) (before : List ℕ) (r : Round) (after : List ℕ) : Type 0 where
   pub good : Good after
   pub long : length (r .flags) ≡ 256
-  pub does : (w : Walk) → Agrees w fault line before → RoundIs (round wants place ms (setOf flags) w) r after
+  pub does : (w : Walk) → Agrees w fault line before → RoundIs (round takes place ms (setOf flags) w) r after
 
 -- on the way through a round that ends in s: the modules from place i on, after those taken so far
 pub record Swept (s : Sweep Walk) (i took : ℕ) (rest : List Module) (flags : List Bool) (fault line : ℕ) (cells : List ℕ) : Type 0 where
   pub here : Walk
   pub agrees : Agrees here fault line cells
-  pub is : sweep wants place i rest (sweepOf (setOf flags) took here) ≡ s
+  pub is : sweep takes place i rest (sweepOf (setOf flags) took here) ≡ s
 
 pub record Sought (ms : List Module) (fault line : ℕ) (before : List ℕ) (r : Outcome) (after : List ℕ) : Type 0 where
   pub good : Good after
@@ -86,4 +86,4 @@ pub record Seeking (f : Found Walk) (ms : List Module) (k took : ℕ) (flags : L
   pub here : Walk
   pub agrees : Agrees here fault line cells
   pub is :
-      cond (eqb took 0) (found (setOf flags) k here) (later k (rounds wants place (suc (length ms)) ms (setOf flags) here)) ≡ f
+      cond (eqb took 0) (found (setOf flags) k here) (later k (rounds takes place (suc (length ms)) ms (setOf flags) here)) ≡ f

@@ -1,7 +1,7 @@
 // A module in turn: placed, and in a round visited. A refused walk stays as it is.
 use crate::due::raise_from;
 use crate::modules::row_line;
-use crate::modules::wants;
+use crate::modules::is_needed;
 use placing::place;
 use state::header::symbol_count;
 use tables::module_cells;
@@ -11,7 +11,7 @@ ghost use lib.ListN.{length};
 ghost use Rattle.rules.specs.Placing.{externals};
 ghost use Rattle.tables.specs.Tables.{moduleIn};
 ghost use Rattle.state.specs.Good.{Good};
-ghost use Rattle.search.specs.Searching.{PlacedRow, Section, takes, Visited};
+ghost use Rattle.search.specs.Searching.{PlacedRow, Section, shouldTake, Visited};
 ghost use Rattle.search.specs.Due.{Idle};
 
 // A refusal's number and line, 0 where there is none.
@@ -20,7 +20,7 @@ pub struct Told {
     pub line: u64,
 }
 
-// Places the module of a row.
+// ModuleSet the module of a row.
 pub fn place_row(
     parts: &[u64],
     rows: &[u64],
@@ -56,10 +56,10 @@ pub struct Turn {
 }
 
 // Is the module of a row to be taken: not taken yet, in a walk that goes on, and with an undefined entry?
-fn is_due(parts: &[u64], rows: &[u64], row: usize, flag: bool, fault: u64, state: &[u64]) -> bool
+fn should_take(parts: &[u64], rows: &[u64], row: usize, flag: bool, fault: u64, state: &[u64]) -> bool
     requires { ⌜ row < 131072 ⌝ }
     requires { ⌜ Good (now state) ⌝ }
-    ensures { λ r. ⌜ r ≡ takes flag fault (now (state .entry)) (moduleIn (now (parts .entry)) (now (rows .entry)) row) ⌝ }
+    ensures { λ r. ⌜ r ≡ shouldTake flag fault (now (state .entry)) (moduleIn (now (parts .entry)) (now (rows .entry)) row) ⌝ }
 {
     if flag {
         return false;
@@ -67,7 +67,7 @@ fn is_due(parts: &[u64], rows: &[u64], row: usize, flag: bool, fault: u64, state
     if fault != 0 {
         return false;
     }
-    wants(module_cells(parts, rows, row), state)
+    is_needed(module_cells(parts, rows, row), state)
 }
 
 // Takes the i-th of n modules, if it is due.
@@ -90,7 +90,7 @@ pub fn visit(
     ensures { λ r. ⌜ Visited (moduleIn (now (parts .entry)) (now (rows .entry)) (first + i)) flag fault line (now (state .entry)) r (now (state .exit)) × Idle (now (parts .entry)) (now (rows .entry)) first n (r .fault) (now (index .entry)) (now (state .exit)) (now (due .exit)) ⌝ }
 {
     let row = first + i;
-    if !is_due(parts, rows, row, flag, fault, state) {
+    if !should_take(parts, rows, row, flag, fault, state) {
         return Turn {
             flag,
             took: 0,

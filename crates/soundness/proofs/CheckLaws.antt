@@ -54,7 +54,7 @@ sound-value v h l = go (eqb v 0) refl
 
 -- ---- words
 
--- a sound word's cells: two zeros, a text with 1, or a text with the place of a symbol
+-- a sound word's cells: two zeros, a text with 1, or a text with the position of a symbol
 pub word-cases : (n text tag : ℕ) → wordSound n text tag ≡ true → (P : ℕ → ℕ → Type 0) → P 0 0 → P text 1 → ((i : ℕ) → i < n → P text (2 + i)) → P text tag
 unfolding wordSound
 word-cases n text tag e P z o r = go (eqb tag 0) (eqb tag 1) refl refl e

@@ -86,7 +86,7 @@ module _ (cells : List ℕ) (n : ℕ) where
   unfolding namesDiffer
   behind-end met i b l = let start : i ≡ 0 = omega arith in sym (rw start at (b .differ))
 
--- a test that fails at one place of a range fails for the range
+-- a test that fails at one position of a range fails for the range
 pub fails-at : (cells : List ℕ) (n i : ℕ) → i < n → differsAt cells n i ≡ false → false ≡ namesDiffer cells n
 unfolding namesDiffer
 fails-at cells n i h f = go (all (differsAt cells n) (range 0 n)) refl

@@ -38,7 +38,7 @@ symbolSoundAt cells i = isPacked (getD cells (namesAt + i) 0) && valueSound (get
 unfoldable pub symbolsSound : List ℕ → ℕ → Bool
 symbolsSound cells n = all (symbolSoundAt cells) (range 0 n)
 
--- no name from place i on, below n, is x
+-- no name from position i on, below n, is x
 abbrev pub unlikeAt : List ℕ → ℕ → ℕ → Bool
 unlikeAt cells x j = not (eqb (getD cells (namesAt + j) 0) x)
 
@@ -59,7 +59,7 @@ isMet met x = not (eqb (getD met (x % 3989) 0) 0)
 abbrev pub metAt : List ℕ → List ℕ → ℕ → Bool
 metAt cells met j = isMet met (getD cells (namesAt + j) 0)
 
--- a filter that has met the names from place i on, below n
+-- a filter that has met the names from position i on, below n
 pub record HasMet (cells : List ℕ) (n i : ℕ) (met : List ℕ) : Type 0 where
   pub size : length met ≡ 4096
   pub each : all (metAt cells met) (range i n) ≡ true

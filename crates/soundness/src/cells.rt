@@ -72,7 +72,7 @@ pub fn symbols_sound(state: &[u64], n: usize) -> bool
     true
 }
 
-// No name from place i on is x.
+// No name from position i on is x.
 fn unlike_from(state: &[u64], x: u64, i: usize, n: usize) -> bool
     requires { ⌜ length (now state) ≡ size ⌝ }
     requires { ⌜ n ≤ 256 ⌝ }

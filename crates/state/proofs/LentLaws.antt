@@ -8,7 +8,7 @@ use borrow.Author.Tests.{leb-true, eqb-true, eq-eqb, ne-eqb}
 use lib.ListN.{length}
 use lib.Dec.{eqb, leb}
 use Rattle.rules.specs.Text.{all, isPacked}
-use Rattle.rules.specs.Line.{sameText}
+use Rattle.rules.specs.Text.{sameText}
 use Rattle.rules.specs.State.{State, soundSymbol, differentNames, soundWord, sound}
 use Rattle.rules.specs.Calls.{wrongLength, damaged, holding, now}
 use Rattle.state.specs.Layout.{size, encode, decode, soundCells, lent, cellsAfter}

@@ -25,7 +25,7 @@ module _ {A : Type 0} where
   pub getD-behind : (p q : List A) (i k : ℕ) (d : A) → k ≡ length p + i → getD (p ++ q) k d ≡ getD q i d
   getD-behind p q i k d e = ap (λ (j : ℕ). getD (p ++ q) j d) e ∙ getD-append-add p q i d
 
-  -- ---- an element put at its place, or at the end of a shorter list
+  -- ---- an element put at its position, or at the end of a shorter list
 
   abbrev pub put : ℕ → A → List A → List A
   put zero a [] = a ∷ []
@@ -152,7 +152,7 @@ module _ {A : Type 0} (f : ℕ → A) where
   unfolding range
   getD-map-range b k d h = getD-numbers 0 (b - 0) k d (omega arith) ∙ ap f (omega arith)
 
-  -- a list is what f gives at its places
+  -- a list is what f gives at its positions
   pub map-range : (l : List A) (b : ℕ) (d : A) → b ≡ length l → ((k : ℕ) → k < b → f k ≡ getD l k d) → map f (range 0 b) ≡ l
   map-range l b d e h =
       ext-getD d (map f (range 0 b)) l (length-map-range 0 b ∙ omega arith)

@@ -9,11 +9,11 @@ use native.Mathlib.Omega.{arith}
 use borrow.Author.Tests.{eq-eqb, ne-eqb, leb-true}
 use lib.ListN.{length, getD, List·getD-map}
 use lib.Dec.{eqb, leb}
-use Rattle.rules.specs.State.{placeOf, undefinedOnly}
+use Rattle.rules.specs.State.{positionOf, undefinedOnly}
 use Rattle.rules.specs.Image.{valueOf}
 use Rattle.state.specs.Layout.{valueCell, symbolIn, symbolsFrom, decode}
 use Rattle.state.specs.Good.{soundValue, Good}
-use Rattle.state.specs.Table.{noSymbol, listed, undefinedPlace}
+use Rattle.state.specs.Table.{noSymbol, listed, undefinedPosition}
 use Rattle.state.proofs.BoolLaws.{first}
 use Rattle.state.proofs.ListLaws.{range-step, range-end, all-at}
 use Rattle.state.proofs.LayoutLaws.{count-is, symbol-is, encode-value}
@@ -42,20 +42,20 @@ module _ (cells : List ℕ) (i : ℕ) where
   undefined-end h = rw (symbols-end h)
 
   module _ (k : ℕ) where
-    pub place-of-first : i < getD cells 0 0 → getD cells (260 + i) 0 ≡ 0 → k ≡ 0 → undefinedPlace k (symbolsFrom cells i) ≡ 0
-    unfolding undefinedPlace
+    pub place-of-first : i < getD cells 0 0 → getD cells (260 + i) 0 ≡ 0 → k ≡ 0 → undefinedPosition k (symbolsFrom cells i) ≡ 0
+    unfolding undefinedPosition
     place-of-first h e z = rw (symbols-step h, eq-eqb _ _ e, eq-eqb _ _ z)
 
-    pub place-of-later : i < getD cells 0 0 → getD cells (260 + i) 0 ≡ 0 → k ≢ 0 → undefinedPlace k (symbolsFrom cells i) ≡ undefinedPlace (k - 1) (symbolsFrom cells (i + 1)) + 1
-    unfolding undefinedPlace
+    pub place-of-later : i < getD cells 0 0 → getD cells (260 + i) 0 ≡ 0 → k ≢ 0 → undefinedPosition k (symbolsFrom cells i) ≡ undefinedPosition (k - 1) (symbolsFrom cells (i + 1)) + 1
+    unfolding undefinedPosition
     place-of-later h e z = rw (symbols-step h, eq-eqb _ _ e, ne-eqb _ _ z)
 
-    pub place-past-defined : i < getD cells 0 0 → getD cells (260 + i) 0 ≢ 0 → undefinedPlace k (symbolsFrom cells i) ≡ undefinedPlace k (symbolsFrom cells (i + 1)) + 1
-    unfolding undefinedPlace
+    pub place-past-defined : i < getD cells 0 0 → getD cells (260 + i) 0 ≢ 0 → undefinedPosition k (symbolsFrom cells i) ≡ undefinedPosition k (symbolsFrom cells (i + 1)) + 1
+    unfolding undefinedPosition
     place-past-defined h e = rw (symbols-step h, ne-eqb _ _ e, sub-zero)
 
-    pub place-of-none : getD cells 0 0 ≤ i → undefinedPlace k (symbolsFrom cells i) ≡ 0
-    unfolding undefinedPlace
+    pub place-of-none : getD cells 0 0 ≤ i → undefinedPosition k (symbolsFrom cells i) ≡ 0
+    unfolding undefinedPosition
     place-of-none h = rw (symbols-end h)
 
 -- ---- the value cells of good memory

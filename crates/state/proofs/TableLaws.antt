@@ -11,19 +11,19 @@ use lib.ListN.{length, getD, set, length-map, length-set}
 use lib.Seq.{set-getD, getD-set-other}
 use lib.Dec.{leb, ltb}
 use Rattle.rules.specs.Text.{any}
-use Rattle.rules.specs.State.{Symbol, symbol, nameIs, placeOf, State}
+use Rattle.rules.specs.State.{Symbol, symbol, nameIs, positionOf, State}
 use Rattle.rules.specs.Placing.{define, mention}
 use Rattle.rules.specs.Calls.{withSymbols}
 use Rattle.state.specs.Layout.{nameCell, valueCell, markCell, padded, header, names, values, texts, tags, encode, symbolIn, decode}
 use Rattle.state.specs.Good.{soundValue, Tidy, Good, Holds}
-use Rattle.state.specs.Table.{noSymbol, Place, NoneFrom, Joined, MentionedAt}
+use Rattle.state.specs.Table.{noSymbol, Position, NoneFrom, Joined, MentionedAt}
 use Rattle.state.proofs.ListLaws.{put, length-put, map-put, set-padded}
 use Rattle.state.proofs.RegionLaws.{flat, set-name, set-value}
 use Rattle.state.proofs.LayoutLaws.{table-long, holds, good-holds, count-is, symbol-is, unused-value}
 use Rattle.state.proofs.BoolLaws.{both}
 use Rattle.state.proofs.JoinLaws.{place-most, place-there, name-at-place, define-put, mention-known, mention-new, put-tidy, at-place, at-no-place}
 
--- ---- a symbol stored at a place of the table, or just behind it
+-- ---- a symbol stored at a position of the table, or just behind it
 
 module _ (s : State) (few : length (s .symbols) ≤ 256) (i : ℕ) (l : i ≤ length (s .symbols)) (h : i < 256) (a : Symbol) where
   abbrev after : State
@@ -79,7 +79,7 @@ pub joined-kept : {t : List Symbol} {s : State} {r : Bool} {cells : List ℕ} �
 joined-kept {t} {s} {cells = cells} j e =
     subst (λ (b : Bool). Holds cells (cond b (withSymbols t s) s)) (sym (j .room) ∙ e) (j .holds)
 
-module _ {cells : List ℕ} (g : Good cells) {x i : ℕ} (p : Place x (decode cells .symbols) i) where
+module _ {cells : List ℕ} (g : Good cells) {x i : ℕ} (p : Position x (decode cells .symbols) i) where
   abbrev t : List Symbol
   t = decode cells .symbols
 
@@ -138,7 +138,7 @@ module _ {cells : List ℕ} (g : Good cells) {x i : ℕ} (p : Place x (decode ce
       pub define-behind : getD cells 0 0 ≤ i → Joined (define x v t) (decode cells) true (set (set (set cells (4 + i) x) (260 + i) (v + 65536)) 0 (i + 1))
       define-behind b = as-defined true _ (put-behind v true sixteen within b)
 
-  -- the place that is answered says whether there was room
+  -- the position that is answered says whether there was room
   mentioned-there : {after : List ℕ} → i < 256 → Joined (mention x t) (decode cells) true after → MentionedAt x (decode cells) i after
   mentioned-there {after} h j =
       record {
@@ -198,31 +198,31 @@ module _ (cells : List ℕ) (x : ℕ) where
   ]
 
   module _ (g : Good cells) where
-    pub name-found : (i a : ℕ) → a ≡ 4 + i → i < getD cells 0 0 → getD cells a 0 ≡ x → Place x (decode cells .symbols) i
+    pub name-found : (i a : ℕ) → a ≡ 4 + i → i < getD cells 0 0 → getD cells a 0 ≡ x → Position x (decode cells .symbols) i
     name-found i a q h e =
         let few : i < length (decode cells .symbols) = omega (arith, count-is cells) in
         let name : getD cells (4 + i) 0 ≡ x = ap (λ (m : ℕ). getD cells m 0) (sym q) ∙ e in
         let there = place-there (decode cells .symbols) x i (g .tidy .different) few (ap (λ (s : Symbol). s .name) (symbol-is cells i h) ∙ name) in
         record { most = omega arith; is = sym there }
 
-    pub name-none : NoneFrom cells x 0 → Place x (decode cells .symbols) (getD cells 0 0)
+    pub name-none : NoneFrom cells x 0 → Position x (decode cells .symbols) (getD cells 0 0)
     name-none f =
-        let most : placeOf x (decode cells .symbols) ≤ length (decode cells .symbols) = place-most x (decode cells .symbols) in
-        go (ltb (placeOf x (decode cells .symbols)) (length (decode cells .symbols))) refl most
+        let most : positionOf x (decode cells .symbols) ≤ length (decode cells .symbols) = place-most x (decode cells .symbols) in
+        go (ltb (positionOf x (decode cells .symbols)) (length (decode cells .symbols))) refl most
       where
-        go : (b : Bool) → ltb (placeOf x (decode cells .symbols)) (length (decode cells .symbols)) ≡ b → placeOf x (decode cells .symbols) ≤ length (decode cells .symbols) → Place x (decode cells .symbols) (getD cells 0 0)
+        go : (b : Bool) → ltb (positionOf x (decode cells .symbols)) (length (decode cells .symbols)) ≡ b → positionOf x (decode cells .symbols) ≤ length (decode cells .symbols) → Position x (decode cells .symbols) (getD cells 0 0)
         go true e m =
-            let r : ℕ = placeOf x (decode cells .symbols) in
+            let r : ℕ = positionOf x (decode cells .symbols) in
             let h : r < length (decode cells .symbols) = ltb-true r (length (decode cells .symbols)) e in
             let there : r < getD cells 0 0 = omega (arith, count-is cells) in
             absurd (f r (omega arith) there (ap (λ (s : Symbol). s .name) (sym (symbol-is cells r there)) ∙ name-at-place x (decode cells .symbols) h))
         go false e m =
-            let h = ltb-false (placeOf x (decode cells .symbols)) (length (decode cells .symbols)) e in
+            let h = ltb-false (positionOf x (decode cells .symbols)) (length (decode cells .symbols)) e in
             record { most = omega (arith, count-is cells); is = omega (arith, count-is cells) }
 
 -- ---- asking for a name
 
-module _ {cells : List ℕ} (g : Good cells) {x i : ℕ} (p : Place x (decode cells .symbols) i) where
+module _ {cells : List ℕ} (g : Good cells) {x i : ℕ} (p : Position x (decode cells .symbols) i) where
   pub name-there : (q : Symbol → Bool) → i < getD cells 0 0 → any (λ s. nameIs x s && q s) (decode cells .symbols) ≡ q (symbolIn cells i)
   name-there q b =
       at-place x q (decode cells .symbols) (g .tidy .different) (omega (arith, p .is, count-is cells))

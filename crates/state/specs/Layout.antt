@@ -4,7 +4,7 @@ use mathlib.Core.Bool.{Bool, cond, not, _&&_}
 use mathlib.Core.List.{List, [], _∷_, _++_, map}
 use lib.ListN.{length, getD, replicate}
 use lib.Dec.{eqb}
-use Rattle.rules.specs.Line.{sameText}
+use Rattle.rules.specs.Text.{sameText}
 use Rattle.rules.specs.State.{Symbol, symbol, Word, unplaced, plain, refers, Mark, unmarked, broken, frozen, State, state, sound}
 use Rattle.rules.specs.Calls.{Lent, wrongLength, damaged, holding, Left, asBefore, now}
 

@@ -11,13 +11,13 @@ ghost use Rattle.rules.specs.Image.{valueOf};
 ghost use Rattle.rules.specs.Placing.{define as defined-in, mention as mentioned-in};
 ghost use Rattle.state.specs.Layout.{decode};
 ghost use Rattle.state.specs.Good.{Good};
-ghost use Rattle.state.specs.Table.{Place, NoneFrom, Joined, MentionedAt, listed, noSymbol, undefinedPlace};
+ghost use Rattle.state.specs.Table.{Position, NoneFrom, Joined, MentionedAt, listed, noSymbol, undefinedPosition};
 
-// The place of a name that none of the symbols from `end` on has, the count of symbols where there is none.
+// The position of a name that none of the symbols from `end` on has, the count of symbols where there is none.
 fn find_below(state: &[u64], name: u64, end: usize) -> usize
     requires { ⌜ Good (now state) ⌝ }
     requires { ⌜ (end ≤ getD (now state) 0 0) × NoneFrom (now state) name end ⌝ }
-    ensures { λ r. ⌜ Place name (decode (now (state .entry)) .symbols) r ⌝ }
+    ensures { λ r. ⌜ Position name (decode (now (state .entry)) .symbols) r ⌝ }
 {
     let mut i = end;
     while 0 < i {
@@ -29,11 +29,11 @@ fn find_below(state: &[u64], name: u64, end: usize) -> usize
     state[0] as usize
 }
 
-// A symbol's place, the count of symbols where there is none. Every search of the table comes here: the last symbols are looked at
+// A symbol's position, the count of symbols where there is none. Every search of the table comes here: the last symbols are looked at
 // first, since a library is searched for those that were mentioned just before; and four names in one turn.
 pub fn find(state: &[u64], name: u64) -> usize
     requires { ⌜ Good (now state) ⌝ }
-    ensures { λ r. ⌜ Place name (decode (now (state .entry)) .symbols) r ⌝ }
+    ensures { λ r. ⌜ Position name (decode (now (state .entry)) .symbols) r ⌝ }
 {
     let mut i = state[0] as usize;
     while 3 < i {
@@ -55,10 +55,10 @@ pub fn find(state: &[u64], name: u64) -> usize
 }
 
 // The same, with a guess that is looked at first. Any number will do as a guess: names differ, so where the name stands, there is
-// its place.
+// its position.
 fn find_by(state: &[u64], name: u64, guess: usize) -> usize
     requires { ⌜ Good (now state) ⌝ }
-    ensures { λ r. ⌜ Place name (decode (now (state .entry)) .symbols) r ⌝ }
+    ensures { λ r. ⌜ Position name (decode (now (state .entry)) .symbols) r ⌝ }
 {
     let n = state[0] as usize;
     if n <= guess {
@@ -81,18 +81,18 @@ fn worth_guessing(state: &[u64], wanted: usize) -> usize
     state[0] as usize
 }
 
-// Guesses: by the remainder of a name, the place of one with that remainder.
+// Guesses: by the remainder of a name, the position of one with that remainder.
 pub fn guesses(state: &[u64], wanted: usize) -> [u16; 512]
     requires { ⌜ Good (now state) ⌝ }
 {
     let n = worth_guessing(state, wanted);
-    let mut places = [0u16; 512];
+    let mut positions = [0u16; 512];
     let mut i = 0;
     while i < n {
-        places[(state[NAMES + i] % 509) as usize] = i as u16;
+        positions[(state[NAMES + i] % 509) as usize] = i as u16;
         i += 1;
     }
-    places
+    positions
 }
 
 pub fn is_defined(state: &[u64], name: u64) -> bool
@@ -138,7 +138,7 @@ pub fn define(state: &mut [u64], name: u64, value: u16) -> bool
     true
 }
 
-// An external joins the table undefined, if it is new. A guess is a place where it may stand. The answer is its place; 256, and nothing changes, where the table is full.
+// An external joins the table undefined, if it is new. A guess is a position where it may stand. The answer is its position; 256, and nothing changes, where the table is full.
 pub fn mention_at(state: &mut [u64], name: u64, guess: usize) -> usize
     requires { ⌜ Good (now state) ⌝ }
     ensures { λ r. ⌜ MentionedAt name (decode (now (state .entry))) r (now (state .exit)) ⌝ }
@@ -221,10 +221,10 @@ pub fn undefined_count(state: &[u64]) -> usize
     found
 }
 
-// The place of the k-th undefined symbol, from 0; the count of symbols where there is none.
-pub fn undefined_place(state: &[u64], k: u64) -> usize
+// The position of the k-th undefined symbol, from 0; the count of symbols where there is none.
+pub fn undefined_position(state: &[u64], k: u64) -> usize
     requires { ⌜ Good (now state) ⌝ }
-    ensures { λ r. ⌜ r ≡ undefinedPlace k (decode (now (state .entry)) .symbols) ⌝ }
+    ensures { λ r. ⌜ r ≡ undefinedPosition k (decode (now (state .entry)) .symbols) ⌝ }
 {
     let n = state[0] as usize;
     let mut more = k;

@@ -2,7 +2,7 @@
 use Prim.Native.Nat.{ℕ}
 use mathlib.Core.Bool.{false}
 use Rattle.rules.specs.Reading.{mode, openModule, openSection}
-use Rattle.rules.specs.declared.line.Wanted.the-variants.{OpeningTitle}
+use Rattle.rules.specs.declared.line.Expected.the-variants.{OpeningTitle}
 use Rattle.rules.specs.declared.reading.Mode.{Mode}
 
 -- the header stands at line n, and an open section has this many modules with the one that begins

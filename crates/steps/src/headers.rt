@@ -1,18 +1,19 @@
 // What a header does.
-use crate::modes::want;
-use crate::modes::want_records;
+use crate::modes::expect;
+use crate::modes::expect_records;
 use crate::stops::list_full;
 use crate::stops::misplaced;
+use rules::limits::MOST_MODULES;
 use rules::line::Header;
-use rules::line::Wanted;
+use rules::line::Expected;
 use rules::reading::Mode;
 use rules::reading::OpenModule;
 use rules::reading::OpenSection;
 use rules::reading::Part;
 use rules::reading::Step;
 ghost use mathlib.Core.Path.{_≡_};
-ghost use Rattle.rules.specs.Reading.{want, wantRecords, insideModule, titleStep, libraryStep, libraryEndStep, headerStep};
-ghost use Rattle.rules.specs.declared.line.Wanted.the-variants.{ClosingTitle, CodeRecord};
+ghost use Rattle.rules.specs.Reading.{expect, expectRecords, insideModule, titleStep, libraryStep, libraryEndStep, headerStep};
+ghost use Rattle.rules.specs.declared.line.Expected.the-variants.{ClosingTitle, CodeRecord};
 ghost use Rattle.rules.specs.declared.reading.Part.the-variants.{BlockPart};
 ghost use Rattle.rules.specs.declared.reading.Step.the-variants.{Next, Add};
 ghost use Rattle.steps.specs.Titled.{titled};
@@ -23,7 +24,7 @@ fn title_header(n: u32, modules: u16, m: Mode) -> Mode
 {
     let block = m.block;
     Mode {
-        wanted: Wanted::OpeningTitle,
+        expected: Expected::OpeningTitle,
         block,
         object: OpenModule {
             inside: false,
@@ -50,7 +51,7 @@ fn title_step(n: u32, m: Mode) -> Step
     if !m.section.inside {
         return Step::Next(title_header(n, modules, m));
     }
-    if 256 <= modules {
+    if MOST_MODULES <= modules {
         return list_full();
     }
     Step::Next(title_header(n, modules + 1, m))
@@ -68,7 +69,7 @@ fn library_step(n: u32, m: Mode) -> Step
     let block = m.block;
     let object = m.object;
     Step::Next(Mode {
-        wanted: Wanted::AnyHeader,
+        expected: Expected::AnyHeader,
         block,
         object,
         section: OpenSection {
@@ -90,7 +91,7 @@ fn library_end_step(m: Mode) -> Step
         let object = m.object;
         return Step::CloseSection(
             Mode {
-                wanted: Wanted::AnyHeader,
+                expected: Expected::AnyHeader,
                 block,
                 object,
                 section: OpenSection {
@@ -106,11 +107,11 @@ fn library_end_step(m: Mode) -> Step
 }
 
 fn code_header(offset: u16, count: u16, m: Mode) -> Step
-    ensures { λ r. ⌜ r ≡ insideModule m (Add (wantRecords CodeRecord offset count m) (BlockPart offset count)) ⌝ }
+    ensures { λ r. ⌜ r ≡ insideModule m (Add (expectRecords CodeRecord offset count m) (BlockPart offset count)) ⌝ }
 {
     if m.object.inside {
         return Step::Add(
-            want_records(Wanted::CodeRecord, offset, count, m),
+            expect_records(Expected::CodeRecord, offset, count, m),
             Part::BlockPart { offset, count },
         );
     }
@@ -118,20 +119,20 @@ fn code_header(offset: u16, count: u16, m: Mode) -> Step
 }
 
 fn end_header(m: Mode) -> Step
-    ensures { λ r. ⌜ r ≡ insideModule m (Next (want ClosingTitle m)) ⌝ }
+    ensures { λ r. ⌜ r ≡ insideModule m (Next (expect ClosingTitle m)) ⌝ }
 {
     if m.object.inside {
-        return Step::Next(want(Wanted::ClosingTitle, m));
+        return Step::Next(expect(Expected::ClosingTitle, m));
     }
     misplaced()
 }
 
 // The header of a block whose records are of one kind.
-fn records_header(wanted: Wanted, count: u16, m: Mode) -> Step
-    ensures { λ r. ⌜ r ≡ insideModule m (Next (wantRecords wanted 0 count m)) ⌝ }
+fn records_header(expected: Expected, count: u16, m: Mode) -> Step
+    ensures { λ r. ⌜ r ≡ insideModule m (Next (expectRecords expected 0 count m)) ⌝ }
 {
     if m.object.inside {
-        return Step::Next(want_records(wanted, 0, count, m));
+        return Step::Next(expect_records(expected, 0, count, m));
     }
     misplaced()
 }
@@ -143,12 +144,12 @@ pub fn header_step(n: u32, m: Mode, header: Header) -> Step
         Header::CodeBlock { count, offset } => code_header(offset, count, m),
         Header::EndBlock => end_header(m),
         Header::TitleBlock => title_step(n, m),
-        Header::EntryBlock(count) => records_header(Wanted::EntryRecord, count, m),
-        Header::ExternalBlock(count) => records_header(Wanted::ExternalRecord, count, m),
+        Header::EntryBlock(count) => records_header(Expected::EntryRecord, count, m),
+        Header::ExternalBlock(count) => records_header(Expected::ExternalRecord, count, m),
         Header::LibraryStart => library_step(n, m),
         Header::LibraryEnd => library_end_step(m),
-        Header::DataBlock(count) => records_header(Wanted::DataRecord, count, m),
-        Header::InitBlock(count) => records_header(Wanted::InitRecord, count, m),
-        Header::ParameterBlock(count) => records_header(Wanted::ParameterRecord, count, m),
+        Header::DataBlock(count) => records_header(Expected::DataRecord, count, m),
+        Header::InitBlock(count) => records_header(Expected::InitRecord, count, m),
+        Header::ParameterBlock(count) => records_header(Expected::ParameterRecord, count, m),
     }
 }

@@ -8,8 +8,10 @@ use crate::records::external_step;
 use crate::records::parameter_step;
 use crate::records::sub_step;
 use crate::records::word_step;
+use rules::answer::LINE;
+use rules::answer::PLACE;
 use rules::line::LineAnswer;
-use rules::line::Wanted;
+use rules::line::Expected;
 use rules::reading::Mode;
 use rules::reading::Reading;
 use rules::reading::Step;
@@ -22,7 +24,7 @@ pub fn step_of(n: u32, m: Mode, answer: LineAnswer) -> Step
 {
     match answer {
         LineAnswer::Bad(f) => Step::Stop {
-            number: 6,
+            number: LINE,
             column: f.column,
         },
         LineAnswer::Blank => Step::Next(m),
@@ -33,8 +35,8 @@ pub fn step_of(n: u32, m: Mode, answer: LineAnswer) -> Step
         LineAnswer::Entered(e) => entry_step(m, e),
         LineAnswer::Mentioned(name) => external_step(m, name),
         LineAnswer::Ignored => {
-            let wanted = m.wanted;
-            Step::Next(record_done(wanted, m))
+            let expected = m.expected;
+            Step::Next(record_done(expected, m))
         }
         LineAnswer::Parameter(size) => parameter_step(m, size),
         LineAnswer::Sub => sub_step(m),
@@ -46,7 +48,7 @@ pub fn at_end(n: u32, m: Mode) -> Reading
     ensures { λ r. ⌜ r ≡ atEnd n m ⌝ }
 {
     let cut = Reading::Stopped {
-        number: 7,
+        number: PLACE,
         line: n,
         column: 0,
     };
@@ -56,9 +58,9 @@ pub fn at_end(n: u32, m: Mode) -> Reading
     if m.section.inside {
         return cut;
     }
-    let wanted = m.wanted;
-    match wanted {
-        Wanted::AnyHeader => Reading::Complete,
+    let expected = m.expected;
+    match expected {
+        Expected::AnyHeader => Reading::Complete,
         _ => cut,
     }
 }

@@ -1,17 +1,17 @@
 // Where the reading stands before the first line, and the modes that more than one line leads to.
-use rules::line::Wanted;
+use rules::line::Expected;
 use rules::reading::Mode;
 use rules::reading::OpenBlock;
 use rules::reading::OpenModule;
 use rules::reading::OpenSection;
 ghost use mathlib.Core.Path.{_≡_};
-ghost use Rattle.rules.specs.Reading.{mode, atStart, want, wantRecords, recordDone, wantSubs, enterModule};
+ghost use Rattle.rules.specs.Reading.{mode, atStart, expect, expectRecords, recordDone, expectSubs, enterModule};
 
 pub fn at_start() -> Mode
     ensures { λ r. ⌜ r ≡ atStart ⌝ }
 {
     Mode {
-        wanted: Wanted::AnyHeader,
+        expected: Expected::AnyHeader,
         block: OpenBlock {
             offset: 0,
             count: 0,
@@ -33,13 +33,13 @@ pub fn at_start() -> Mode
     }
 }
 
-// The same module and section, with another line wanted and another block open. It is made field by field: a struct that is
+// The same module and section, with another line expected and another block open. It is made field by field: a struct that is
 // copied whole takes its padding along, and the machine then waits for it at each line.
-fn with_block(wanted: Wanted, block: OpenBlock, m: Mode) -> Mode
-    ensures { λ r. ⌜ r ≡ mode wanted block (m .object) (m .section) ⌝ }
+fn with_block(expected: Expected, block: OpenBlock, m: Mode) -> Mode
+    ensures { λ r. ⌜ r ≡ mode expected block (m .object) (m .section) ⌝ }
 {
     Mode {
-        wanted,
+        expected,
         block: OpenBlock {
             offset: block.offset,
             count: block.count,
@@ -61,23 +61,23 @@ fn with_block(wanted: Wanted, block: OpenBlock, m: Mode) -> Mode
     }
 }
 
-pub fn want(wanted: Wanted, m: Mode) -> Mode
-    ensures { λ r. ⌜ r ≡ want wanted m ⌝ }
+pub fn expect(expected: Expected, m: Mode) -> Mode
+    ensures { λ r. ⌜ r ≡ expect expected m ⌝ }
 {
     let block = m.block;
-    with_block(wanted, block, m)
+    with_block(expected, block, m)
 }
 
 // The same mode, made field by field.
 pub fn renewed(m: Mode) -> Mode
     ensures { λ r. ⌜ r ≡ m ⌝ }
 {
-    let wanted = m.wanted;
-    want(wanted, m)
+    let expected = m.expected;
+    expect(expected, m)
 }
 
-pub fn want_records(wanted: Wanted, offset: u16, count: u16, m: Mode) -> Mode
-    ensures { λ r. ⌜ r ≡ wantRecords wanted offset count m ⌝ }
+pub fn expect_records(expected: Expected, offset: u16, count: u16, m: Mode) -> Mode
+    ensures { λ r. ⌜ r ≡ expectRecords expected offset count m ⌝ }
 {
     let block = OpenBlock {
         offset,
@@ -86,13 +86,13 @@ pub fn want_records(wanted: Wanted, offset: u16, count: u16, m: Mode) -> Mode
         subs: 0,
     };
     if count == 0 {
-        return with_block(Wanted::AnyHeader, block, m);
+        return with_block(Expected::AnyHeader, block, m);
     }
-    with_block(wanted, block, m)
+    with_block(expected, block, m)
 }
 
-pub fn record_done(wanted: Wanted, m: Mode) -> Mode
-    ensures { λ r. ⌜ r ≡ recordDone wanted m ⌝ }
+pub fn record_done(expected: Expected, m: Mode) -> Mode
+    ensures { λ r. ⌜ r ≡ recordDone expected m ⌝ }
 {
     let remaining = m.block.remaining;
     if remaining <= 1 {
@@ -102,7 +102,7 @@ pub fn record_done(wanted: Wanted, m: Mode) -> Mode
             remaining: 0,
             subs: 0,
         };
-        return with_block(Wanted::AnyHeader, last, m);
+        return with_block(Expected::AnyHeader, last, m);
     }
     let block = OpenBlock {
         offset: m.block.offset,
@@ -110,11 +110,11 @@ pub fn record_done(wanted: Wanted, m: Mode) -> Mode
         remaining: remaining - 1,
         subs: 0,
     };
-    with_block(wanted, block, m)
+    with_block(expected, block, m)
 }
 
-pub fn want_subs(size: u16, m: Mode) -> Mode
-    ensures { λ r. ⌜ r ≡ wantSubs size m ⌝ }
+pub fn expect_subs(size: u16, m: Mode) -> Mode
+    ensures { λ r. ⌜ r ≡ expectSubs size m ⌝ }
 {
     let block = OpenBlock {
         offset: m.block.offset,
@@ -122,7 +122,7 @@ pub fn want_subs(size: u16, m: Mode) -> Mode
         remaining: m.block.remaining,
         subs: size,
     };
-    with_block(Wanted::SubRecord, block, m)
+    with_block(Expected::SubRecord, block, m)
 }
 
 pub fn enter_module(title: u64, m: Mode) -> Mode
@@ -131,7 +131,7 @@ pub fn enter_module(title: u64, m: Mode) -> Mode
     let block = m.block;
     let section = m.section;
     Mode {
-        wanted: Wanted::AnyHeader,
+        expected: Expected::AnyHeader,
         block,
         object: OpenModule {
             inside: true,

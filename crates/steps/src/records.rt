@@ -1,11 +1,13 @@
 // What a data record does.
 use crate::modes::record_done;
-use crate::modes::want_subs;
+use crate::modes::expect_subs;
 use crate::stops::list_full;
 use crate::stops::misplaced;
+use rules::limits::MOST_ENTRIES;
+use rules::limits::MOST_EXTERNALS;
 use rules::line::CodeWord;
 use rules::line::Entry;
-use rules::line::Wanted;
+use rules::line::Expected;
 use rules::reading::Mode;
 use rules::reading::OpenBlock;
 use rules::reading::OpenModule;
@@ -13,8 +15,9 @@ use rules::reading::Part;
 use rules::reading::Step;
 ghost use mathlib.Core.Path.{_≡_};
 ghost use Prim.Native.Nat.{_-_, _+_, _<_};
+ghost use Rattle.rules.specs.Limits.{mostEntries, mostExternals};
 ghost use Rattle.rules.specs.Reading.{closingStep, countEntry, entryStep, countExternal, externalStep, wordPart, recordDone, parameterStep, subStep};
-ghost use Rattle.rules.specs.declared.line.Wanted.the-variants.{CodeRecord};
+ghost use Rattle.rules.specs.declared.line.Expected.the-variants.{CodeRecord};
 ghost use Rattle.rules.specs.declared.reading.Step.the-variants.{Add};
 
 pub fn closing_step(m: Mode, title: u64) -> Step
@@ -24,7 +27,7 @@ pub fn closing_step(m: Mode, title: u64) -> Step
         let section = m.section;
         return Step::CloseModule(
             Mode {
-                wanted: Wanted::AnyHeader,
+                expected: Expected::AnyHeader,
                 block: OpenBlock {
                     offset: 0,
                     count: 0,
@@ -47,14 +50,14 @@ pub fn closing_step(m: Mode, title: u64) -> Step
 }
 
 fn count_entry(m: Mode) -> Mode
-    requires { ⌜ m .object .entries < 64 ⌝ }
+    requires { ⌜ m .object .entries < mostEntries ⌝ }
     ensures { λ r. ⌜ r ≡ countEntry m ⌝ }
 {
-    let wanted = m.wanted;
+    let expected = m.expected;
     let block = m.block;
     let section = m.section;
     Mode {
-        wanted,
+        expected,
         block,
         object: OpenModule {
             inside: m.object.inside,
@@ -68,14 +71,14 @@ fn count_entry(m: Mode) -> Mode
 }
 
 fn count_external(m: Mode) -> Mode
-    requires { ⌜ m .object .externals < 64 ⌝ }
+    requires { ⌜ m .object .externals < mostExternals ⌝ }
     ensures { λ r. ⌜ r ≡ countExternal m ⌝ }
 {
-    let wanted = m.wanted;
+    let expected = m.expected;
     let block = m.block;
     let section = m.section;
     Mode {
-        wanted,
+        expected,
         block,
         object: OpenModule {
             inside: m.object.inside,
@@ -91,9 +94,9 @@ fn count_external(m: Mode) -> Mode
 pub fn entry_step(m: Mode, e: Entry) -> Step
     ensures { λ r. ⌜ r ≡ entryStep m e ⌝ }
 {
-    if m.object.entries < 64 {
+    if m.object.entries < MOST_ENTRIES {
         return Step::Add(
-            record_done(Wanted::EntryRecord, count_entry(m)),
+            record_done(Expected::EntryRecord, count_entry(m)),
             Part::EntryPart(e),
         );
     }
@@ -103,9 +106,9 @@ pub fn entry_step(m: Mode, e: Entry) -> Step
 pub fn external_step(m: Mode, name: u64) -> Step
     ensures { λ r. ⌜ r ≡ externalStep m name ⌝ }
 {
-    if m.object.externals < 64 {
+    if m.object.externals < MOST_EXTERNALS {
         return Step::Add(
-            record_done(Wanted::ExternalRecord, count_external(m)),
+            record_done(Expected::ExternalRecord, count_external(m)),
             Part::ExternalPart(name),
         );
     }
@@ -127,7 +130,7 @@ pub fn word_step(m: Mode, word: CodeWord) -> Step
 {
     let address = m.block.offset as u32 + less(m.block.count, m.block.remaining) as u32;
     Step::Add(
-        record_done(Wanted::CodeRecord, m),
+        record_done(Expected::CodeRecord, m),
         Part::WordPart { address, word },
     )
 }
@@ -136,9 +139,9 @@ pub fn parameter_step(m: Mode, size: u16) -> Step
     ensures { λ r. ⌜ r ≡ parameterStep m size ⌝ }
 {
     if size == 0 {
-        return Step::Next(record_done(Wanted::ParameterRecord, m));
+        return Step::Next(record_done(Expected::ParameterRecord, m));
     }
-    Step::Next(want_subs(size, m))
+    Step::Next(expect_subs(size, m))
 }
 
 pub fn sub_step(m: Mode) -> Step
@@ -146,7 +149,7 @@ pub fn sub_step(m: Mode) -> Step
 {
     let subs = m.block.subs;
     if subs <= 1 {
-        return Step::Next(record_done(Wanted::ParameterRecord, m));
+        return Step::Next(record_done(Expected::ParameterRecord, m));
     }
-    Step::Next(want_subs(subs - 1, m))
+    Step::Next(expect_subs(subs - 1, m))
 }

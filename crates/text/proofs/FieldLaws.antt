@@ -162,7 +162,7 @@ lends-field at stop start end file r i s e b p =
     b ∙ ap₂ (λ (f g : ℕ). part f g (now file)) s n in
     record {
       bytes = t;
-      place = p ∙ ap (λ (k : ℕ). onward k (ptr file)) s;
+      position = p ∙ ap (λ (k : ℕ). onward k (ptr file)) s;
       fields = λ c. rw t (next-field at stop (now file) i c);
     }
 

@@ -9,7 +9,8 @@ use lib.ListN.{length, take, drop, getD, length-drop, drop-of-length-le}
 use lib.Seq.{drop-drop, getD-drop}
 use lib.Dec.{eqb}
 use borrow.Author.Tests.{eq-eqb, ne-eqb, eqb-true}
-use Rattle.rules.specs.Text.{LF, CR, linesOf, addToLines, startsLF, widenLine, legalFront}
+use Rattle.rules.specs.Text.{LF, CR, linesOf, widenLine, legalFront}
+use Rattle.rules.proofs.LineEndLaws.{startsLF, addToLines, lines-nil, lines-cons}
 use Rattle.text.specs.Scan.{part, run, past, isNot, Found}
 use Rattle.text.specs.LineEnds.{lineNext, NextLine, isLegal, legalEnd, frontOf}
 use Rattle.text.proofs.ScanLaws.{part-nil, part-all, part-front, run-yes, run-no, run-take, past-through, and-false}
@@ -38,21 +39,21 @@ module _ (b : ℕ) (rest : List ℕ) where
       go false e = refl
 
   lines-LF : eqb b LF ≡ true → linesOf (b ∷ rest) ≡ [] ∷ linesOf rest
-  unfolding linesOf addToLines
-  lines-LF e = simp e
+  unfolding addToLines
+  lines-LF e = lines-cons b rest ∙ simp e
 
   lines-CRLF : eqb b LF ≡ false → eqb b CR ≡ true → startsLF rest ≡ true → linesOf (b ∷ rest) ≡ linesOf rest
-  unfolding linesOf addToLines
-  lines-CRLF d e f = simp (d, e, f)
+  unfolding addToLines
+  lines-CRLF d e f = lines-cons b rest ∙ simp (d, e, f)
 
   lines-more : eqb b LF ≡ false → eqb b CR && startsLF rest ≡ false → linesOf (b ∷ rest) ≡ widenLine b (linesOf rest)
-  unfolding linesOf addToLines
-  lines-more e f = simp (e, f)
+  unfolding addToLines
+  lines-more e f = lines-cons b rest ∙ simp (e, f)
 
 -- a line that no LF ends is the last
 last-line : (b : ℕ) (rest : List ℕ) → length rest < width (b ∷ rest) → linesOf (b ∷ rest) ≡ (b ∷ rest) ∷ []
-unfolding linesOf startsLF widenLine
-last-line b [] h = lines-more b [] (not-at-LF b [] h) (and-false (eqb b CR))
+unfolding startsLF widenLine
+last-line b [] h = lines-more b [] (not-at-LF b [] h) (and-false (eqb b CR)) ∙ ap (widenLine b) lines-nil
 last-line b (x ∷ xs) h =
     let e = not-at-LF b (x ∷ xs) (omega arith) in
     let g : length xs < width (x ∷ xs) = omega (arith, width-more b (x ∷ xs) e) in
@@ -184,8 +185,7 @@ front-line (b ∷ rest) h = first-line b rest (omega arith)
 
 -- nothing after a final LF is a line
 pub no-line : (at : ℕ) (file : List ℕ) → length file ≤ at → linesOf (drop at file) ≡ []
-unfolding linesOf
-no-line at file h = rw (drop-of-length-le file h)
+no-line at file h = rw (drop-of-length-le file h) lines-nil
 
 module _ (at lf : ℕ) (file : List ℕ) (f : Found at (length file) (past (isNot LF) at (length file) file) lf) where
   width-is : width (drop at file) ≡ lf - at

@@ -12,7 +12,8 @@ use lib.Seq.{drop-cons}
 use lib.Dec.{eqb, leb}
 use borrow.Author.Tests.{eq-eqb, ne-eqb, eqb-true, eqb-false, leb-true}
 use Rattle.rules.specs.Text.{bytes, all}
-use Rattle.rules.specs.Line.{Row, headers, rowIn, rowOf, markerIn, markerOf, sameText}
+use Rattle.rules.specs.Line.{Row, headers, rowIn, rowOf, markerIn, markerOf}
+use Rattle.rules.specs.Text.{sameText}
 use Rattle.text.specs.Scan.{part}
 
 -- ---- two texts

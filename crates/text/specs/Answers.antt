@@ -6,6 +6,7 @@ use mathlib.Core.Option.{Option, none, some}
 use mathlib.Core.Path.{_≡_}
 use lib.ListN.{getD}
 use lib.Dec.{leb}
+use Rattle.rules.specs.Limits.{largestNumber}
 use Rattle.text.specs.declared.numbers.Number.{Number}
 use Rattle.text.specs.declared.numbers.Number.the-variants.{Value, NotANumber}
 use Rattle.text.specs.declared.names.Name.{Name}
@@ -18,7 +19,7 @@ numberIn NotANumber = none
 
 -- a value as a number, where it is at most 177777
 abbrev pub small : ℕ → Option ℕ
-small v = cond (leb v 0o177777) (some v) none
+small v = cond (leb v largestNumber) (some v) none
 
 -- the packed name that an answer holds
 abbrev pub nameIn : Name → Option ℕ

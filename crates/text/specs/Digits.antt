@@ -4,6 +4,7 @@ use mathlib.Core.Bool.{true, false}
 use mathlib.Core.List.{List}
 use mathlib.Core.Path.{_≡_}
 use lib.ListN.{length, getD}
+use Rattle.rules.specs.Limits.{mostDigits}
 use Rattle.rules.specs.Text.{space, all, isOctal, octal, numberOf}
 use Rattle.text.specs.Scan.{part, past, isNot}
 use Rattle.text.specs.FieldBounds.{fieldStart, fieldStop}
@@ -15,10 +16,10 @@ use Rattle.text.specs.declared.numbers.NumberField.{NumberField}
 pub record DigitsRead (at stop : ℕ) (file : List ℕ) (r : DigitRun) : Type 0 where
   pub from : at ≤ r .end
   pub to : r .end ≤ stop
-  pub few : r .end ≤ at + 6
+  pub few : r .end ≤ at + mostDigits
   pub digits : all isOctal (part at (r .end) file) ≡ true
   pub value : r .value ≡ octal 0 (part at (r .end) file)
-  pub stops : r .end < stop → r .end < at + 6 → isOctal (getD file (r .end) 0) ≡ false
+  pub stops : r .end < stop → r .end < at + mostDigits → isOctal (getD file (r .end) 0) ≡ false
   pub field : past (isNot space) (r .end) stop file ≡ past (isNot space) at stop file
 
 -- the bytes of the next field

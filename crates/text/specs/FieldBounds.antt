@@ -26,12 +26,12 @@ first f others = cond (eqb (length (f .text)) 0) [] (f ∷ others)
 
 -- where a reference points, n bytes on
 abbrev pub onward : ℕ → ℕ × ℕ → ℕ × ℕ
-onward n place = (place .0, n + place .1)
+onward n position = (position .0, n + position .1)
 
--- r is the next field of the line from `at` to stop: it has those bytes of the file, at that place, and the others follow it
+-- r is the next field of the line from `at` to stop: it has those bytes of the file, at that position, and the others follow it
 pub record NextField (at stop : ℕ) (file r : RefT (List ℕ)) : Type 0 where
   pub bytes : now r ≡ part (fieldStart at stop (now file)) (fieldStop at stop (now file)) (now file)
-  pub place : ptr r ≡ onward (fieldStart at stop (now file)) (ptr file)
+  pub position : ptr r ≡ onward (fieldStart at stop (now file)) (ptr file)
   pub fields : (c : ℕ) →
       fieldsFrom c (part at stop (now file))
       ≡ first

@@ -4,6 +4,7 @@ use mathlib.Core.Bool.{Bool}
 use mathlib.Core.List.{List, _∷_}
 use mathlib.Core.Path.{_≡_}
 use lib.ListN.{length, drop}
+use Rattle.rules.specs.Limits.{longestLine}
 use Rattle.rules.specs.Text.{LF, between, linesOf, legalFront}
 use Rattle.text.specs.Scan.{part, past, isNot}
 use Rattle.text.specs.declared.lines.LineSpan.{LineSpan}
@@ -21,7 +22,7 @@ pub record NextLine (at : ℕ) (file : List ℕ) (r : LineSpan) : Type 0 where
   pub stops : r .stop ≤ r .next
   pub moves : at < r .next
   pub ends : r .next ≤ length file
-  pub fronts : r .front ≡ legalFront 80 (part at (r .stop) file)
+  pub fronts : r .front ≡ legalFront longestLine (part at (r .stop) file)
 
 abbrev pub isLegal : ℕ → Bool
 isLegal b = between 32 126 b
@@ -32,4 +33,4 @@ legalEnd i e file = past isLegal i e file
 
 -- the legal bytes at the front of the line from `at` to stop, at most 80, where the next illegal byte is at `illegal`
 abbrev pub frontOf : ℕ → ℕ → ℕ → ℕ
-frontOf at illegal stop = min 80 (min illegal stop - at)
+frontOf at illegal stop = min longestLine (min illegal stop - at)

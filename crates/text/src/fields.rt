@@ -1,9 +1,8 @@
 // The fields of a line.
+use crate::scan::SPACE;
 use crate::scan::find_byte;
 ghost use Rattle.text.specs.Scan.{InFile, Found};
 ghost use Rattle.text.specs.FieldBounds.{fieldStart, NextField};
-
-const SPACE: u8 = 32;
 
 // Where the next field of the line starts: `stop` where there is none.
 pub fn field_start(file: &[u8], at: usize, stop: usize) -> usize

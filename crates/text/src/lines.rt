@@ -1,14 +1,16 @@
 // The lines of a file.
+use crate::scan::CR;
+use crate::scan::LF;
+use crate::scan::SPACE;
+use crate::scan::TILDE;
 use crate::scan::find_byte;
+use rules::limits::LONGEST_LINE;
 ghost use mathlib.Core.Path.{_≡_};
 ghost use Prim.Native.Nat.{_<_, _≤_, min};
 ghost use lib.ListN.{length};
+ghost use Rattle.rules.specs.Limits.{longestLine};
 ghost use Rattle.text.specs.Scan.{InFile, Found};
 ghost use Rattle.text.specs.LineEnds.{legalEnd, frontOf, NextLine};
-
-const LF: u8 = 10;
-
-const CR: u8 = 13;
 
 // Where a line stops, its end left out, and where the next one starts; and how many legal bytes stand at the line's front, at
 // most 80.
@@ -26,10 +28,10 @@ fn legal_end(file: &[u8], at: usize, end: usize) -> usize
     let mut i = at;
     while i < end {
         let byte = file[i];
-        if byte < 32 {
+        if byte < SPACE {
             return i;
         }
-        if 126 < byte {
+        if TILDE < byte {
             return i;
         }
         i += 1;
@@ -37,11 +39,11 @@ fn legal_end(file: &[u8], at: usize, end: usize) -> usize
     i
 }
 
-fn at_most_80(n: usize) -> usize
-    ensures { λ r. ⌜ r ≡ min 80 n ⌝ }
+fn at_most_a_line(n: usize) -> usize
+    ensures { λ r. ⌜ r ≡ min longestLine n ⌝ }
 {
-    if 80 < n {
-        return 80;
+    if LONGEST_LINE < n {
+        return LONGEST_LINE;
     }
     n
 }
@@ -52,9 +54,9 @@ fn legal_front(at: usize, illegal: usize, stop: usize) -> usize
     ensures { λ r. ⌜ r ≡ frontOf at illegal stop ⌝ }
 {
     if illegal < stop {
-        return at_most_80(illegal - at);
+        return at_most_a_line(illegal - at);
     }
-    at_most_80(stop - at)
+    at_most_a_line(stop - at)
 }
 
 // The line that starts at `at`. A CR is dropped only just before an LF. An LF is an illegal byte itself, so one pass finds both.

@@ -2,7 +2,8 @@
 use crate::scan::position;
 ghost use mathlib.Core.Path.{_≡_};
 ghost use mathlib.Core.List.{[], _∷_};
-ghost use Rattle.rules.specs.Line.{sameText, markerOf};
+ghost use Rattle.rules.specs.Text.{sameText};
+ghost use Rattle.rules.specs.Line.{markerOf};
 
 fn same_text(a: &[u8], b: &[u8]) -> bool
     ensures { λ r. ⌜ r ≡ sameText (now (a .entry)) (now (b .entry)) ⌝ }

@@ -1,4 +1,5 @@
 // Names: one to six characters, A to Z and 0 to 9, the first a letter.
+use rules::limits::LONGEST_NAME;
 ghost use mathlib.Core.Path.{_≡_};
 ghost use Rattle.rules.specs.Text.{between, isLetter, isLetterOrDigit, isName, packName, nameOf};
 ghost use Rattle.text.specs.Answers.{nameIn, ByteAt};
@@ -34,7 +35,7 @@ pub fn is_name(field: &[u8]) -> bool
     if n == 0 {
         return false;
     }
-    if 6 < n {
+    if LONGEST_NAME < n {
         return false;
     }
     if !is_letter(field[0]) {

@@ -1,13 +1,15 @@
 // Numbers: one to six octal digits, at most 177777.
 use crate::fields::next_field;
+use crate::scan::SPACE;
+use rules::limits::LARGEST_NUMBER;
+use rules::limits::MOST_DIGITS;
 ghost use mathlib.Core.Path.{_≡_};
 ghost use Prim.Native.Nat.{_+_, _≤_, min};
+ghost use Rattle.rules.specs.Limits.{mostDigits};
 ghost use Rattle.rules.specs.Text.{numberOf};
 ghost use Rattle.text.specs.Scan.{InFile};
 ghost use Rattle.text.specs.Answers.{numberIn, small};
 ghost use Rattle.text.specs.Digits.{DigitsRead, FieldRead};
-
-const SPACE: u8 = 32;
 
 pub enum Number {
     Value(u16),
@@ -20,13 +22,13 @@ pub struct DigitRun {
     pub end: usize,
 }
 
-// Six bytes on, or where the text stops.
-fn six_on(at: usize, stop: usize) -> usize
+// As many bytes on as a number has digits, or where the text stops.
+fn digits_on(at: usize, stop: usize) -> usize
     requires { ⌜ at ≤ stop ⌝ }
-    ensures { λ r. ⌜ r ≡ min (at + 6) stop ⌝ }
+    ensures { λ r. ⌜ r ≡ min (at + mostDigits) stop ⌝ }
 {
-    if 6 < stop - at {
-        return at + 6;
+    if MOST_DIGITS < stop - at {
+        return at + MOST_DIGITS;
     }
     stop
 }
@@ -35,7 +37,7 @@ fn digits(file: &[u8], at: usize, stop: usize) -> DigitRun
     requires { ⌜ InFile at stop (now file) ⌝ }
     ensures { λ r. ⌜ DigitsRead at stop (now (file .entry)) r ⌝ }
 {
-    let most = six_on(at, stop);
+    let most = digits_on(at, stop);
     let mut value: u32 = 0;
     let mut i = at;
     while i < most {
@@ -55,7 +57,7 @@ fn digits(file: &[u8], at: usize, stop: usize) -> DigitRun
 fn as_number(value: u32) -> Number
     ensures { λ r. ⌜ numberIn r ≡ small value ⌝ }
 {
-    if 0o177777 < value {
+    if LARGEST_NUMBER < value {
         return Number::NotANumber;
     }
     Number::Value(value as u16)
@@ -68,7 +70,7 @@ pub fn read_number(field: &[u8]) -> Number
     if n == 0 {
         return Number::NotANumber;
     }
-    if 6 < n {
+    if MOST_DIGITS < n {
         return Number::NotANumber;
     }
     let run = digits(field, 0, n);

@@ -2,6 +2,15 @@
 ghost use mathlib.Core.Path.{_≡_};
 ghost use Rattle.text.specs.Scan.{InFile, Found, isNot, past};
 
+pub const LF: u8 = 10;
+
+pub const CR: u8 = 13;
+
+pub const SPACE: u8 = 32;
+
+// The last byte that a line may have.
+pub const TILDE: u8 = 126;
+
 // The first position from `at` on with that byte, or `stop`.
 pub fn find_byte(file: &[u8], at: usize, stop: usize, byte: u8) -> usize
     requires { ⌜ InFile at stop (now file) ⌝ }

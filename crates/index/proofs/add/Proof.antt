@@ -33,16 +33,16 @@ slice-read-before : tie.Need-slice-read-before
 slice-read-before c = search needs
 
 mul-index : tie.Need-mul-index
-mul-index c = let a = c .before .before .before .before .before .before .args in let p = c .before .before .before .before .before .before .pre in omega (arith, link-most (a .parts .now) (a .index .now) (p .1 .0) (a .place) (a .owner) _ (p .1 .1) (p .0 .0) (p .0 .1) (ap (λ h. 1 + h) (c .before .slot .ensures ∙ ap slotOf (c .before .before .cell .ensures))))
+mul-index c = let a = c .before .before .before .before .before .before .args in let p = c .before .before .before .before .before .before .pre in omega (arith, link-most (a .parts .now) (a .index .now) (p .1 .0) (a .part) (a .owner) _ (p .1 .1) (p .0 .0) (p .0 .1) (ap (λ h. 1 + h) (c .before .slot .ensures ∙ ap slotOf (c .before .before .cell .ensures))))
 
 add-index : tie.Need-add-index
-add-index c = let a = c .before .before .before .before .before .before .args in let p = c .before .before .before .before .before .before .pre in omega (arith, link-most (a .parts .now) (a .index .now) (p .1 .0) (a .place) (a .owner) _ (p .1 .1) (p .0 .0) (p .0 .1) (ap (λ h. 1 + h) (c .before .slot .ensures ∙ ap slotOf (c .before .before .cell .ensures))), p .0 .0)
+add-index c = let a = c .before .before .before .before .before .before .args in let p = c .before .before .before .before .before .before .pre in omega (arith, link-most (a .parts .now) (a .index .now) (p .1 .0) (a .part) (a .owner) _ (p .1 .1) (p .0 .0) (p .0 .1) (ap (λ h. 1 + h) (c .before .slot .ensures ∙ ap slotOf (c .before .before .cell .ensures))), p .0 .0)
 
 mul-index-2 : tie.Need-mul-index-2
 mul-index-2 c = search needs
 
 add-index-2 : tie.Need-add-index-2
-add-index-2 c = let a = c .before .before .before .before .before .before .args in let p = c .before .before .before .before .before .before .pre in omega (arith, link-most (a .parts .now) (a .index .now) (p .1 .0) (a .place) (a .owner) _ (p .1 .1) (p .0 .0) (p .0 .1) (ap (λ h. 1 + h) (c .before .slot .ensures ∙ ap slotOf (c .before .before .cell .ensures))), p .0)
+add-index-2 c = let a = c .before .before .before .before .before .before .args in let p = c .before .before .before .before .before .before .pre in omega (arith, link-most (a .parts .now) (a .index .now) (p .1 .0) (a .part) (a .owner) _ (p .1 .1) (p .0 .0) (p .0 .1) (ap (λ h. 1 + h) (c .before .slot .ensures ∙ ap slotOf (c .before .before .cell .ensures))), p .0)
 
 add-index-3 : tie.Need-add-index-3
 add-index-3 c = search needs
@@ -72,7 +72,7 @@ same-length : tie.Need-same-length
 same-length c = search needs
 
 returns : tie.Need-returns
-returns c = let a = c .before .before .before .before .before .before .args in let p = c .before .before .before .before .before .before .pre in entry-added (a .parts .now) (a .index .now) (p .1 .0) (a .place) (a .owner) _ (p .1 .1) (p .0 .0) (p .0 .1) (ap (λ h. 1 + h) (c .before .slot .ensures ∙ ap slotOf (c .before .before .cell .ensures)))
+returns c = let a = c .before .before .before .before .before .before .args in let p = c .before .before .before .before .before .before .pre in entry-added (a .parts .now) (a .index .now) (p .1 .0) (a .part) (a .owner) _ (p .1 .1) (p .0 .0) (p .0 .1) (ap (λ h. 1 + h) (c .before .slot .ensures ∙ ap slotOf (c .before .before .cell .ensures)))
 
 pub add-spec : {M : Type 1} → statement M
 add-spec =

@@ -1,11 +1,11 @@
--- `record::fields_say` meets its contract: by whether there is a field, then by what is wanted.
+-- `record::fields_say` meets its contract: by whether there is a field, then by what is expected.
 -- Assumes nothing.
 use mathlib.Core.Path.{_≡_}
 use denote.Ref.{now}
-use Rattle.rules.specs.Line.{fieldsSay, lineOf}
+use Rattle.rules.specs.Line.{readAs, recordShape, fieldsSay, lineOf}
 use Rattle.rules.specs.declared.line.LineAnswer.{LineAnswer}
 use Rattle.line.specs.Fitting.{endColumn, lineFields}
-use Rattle.line.specs.Shapes.{recordShapes, shapeOf, shapeLine}
+use Rattle.line.specs.Shapes.{records, shapeOf, shapeLine}
 use Rattle.line.proofs.AnswerLaws.{line-blank, line-fields}
 use borrow.Author.Needs.{needs}
 use Rattle.line.proofs.fields_say.Statement.{statement}
@@ -17,8 +17,8 @@ field-start-requires c κs = search needs
 -- where there is a field, what the fields say is what the line says
 some : (c : tie.Else1) {a : LineAnswer} →
     let x = c .before .before .before .args in
-    a ≡ fieldsSay (x .wanted) (endColumn (x .at) (x .stop)) (lineFields (x .at) (x .stop) (now (x .file))) →
-    a ≡ lineOf (x .wanted) (endColumn (x .at) (x .stop)) (lineFields (x .at) (x .stop) (now (x .file)))
+    a ≡ fieldsSay (x .expected) (endColumn (x .at) (x .stop)) (lineFields (x .at) (x .stop) (now (x .file))) →
+    a ≡ lineOf (x .expected) (endColumn (x .at) (x .stop)) (lineFields (x .at) (x .stop) (now (x .file)))
 some c p = line-fields _ (c .before .before .before .pre) (c .before .field-start .ensures .is) (search needs) p
 
 returns : tie.Need-returns
@@ -89,11 +89,11 @@ unfolding fieldsSay
 returns-2 c = some (c .before .before .before) (rw (c .before .enum-told .given .1) (c .header-line .ensures))
 
 returns-3 : tie.Need-returns-3
-unfolding fieldsSay shapeLine shapeOf recordShapes
+unfolding fieldsSay readAs shapeOf records recordShape
 returns-3 c = some (c .before .before .before) (rw (c .before .enum-told2 .given .1) (c .read-as .ensures))
 
 returns-4 : tie.Need-returns-4
-unfolding fieldsSay shapeLine shapeOf recordShapes
+unfolding fieldsSay readAs shapeOf records recordShape
 returns-4 c = some (c .before .before .before) (rw (c .before .enum-told3 .given .1) (c .read-as2 .ensures))
 
 returns-5 : tie.Need-returns-5
@@ -105,23 +105,23 @@ unfolding fieldsSay
 returns-6 c = some (c .before .before .before) (rw (c .before .enum-told5 .given .1) (c .entry-line .ensures))
 
 returns-7 : tie.Need-returns-7
-unfolding fieldsSay shapeLine shapeOf recordShapes
+unfolding fieldsSay readAs shapeOf records recordShape
 returns-7 c = some (c .before .before .before) (rw (c .before .enum-told6 .given .1) (c .read-as3 .ensures))
 
 returns-8 : tie.Need-returns-8
-unfolding fieldsSay shapeLine shapeOf recordShapes
+unfolding fieldsSay readAs shapeOf records recordShape
 returns-8 c = some (c .before .before .before) (rw (c .before .enum-told7 .given .1) (c .read-as4 .ensures))
 
 returns-9 : tie.Need-returns-9
-unfolding fieldsSay shapeLine shapeOf recordShapes
+unfolding fieldsSay readAs shapeOf records recordShape
 returns-9 c = some (c .before .before .before) (rw (c .before .enum-told8 .given .1) (c .read-as5 .ensures))
 
 returns-10 : tie.Need-returns-10
-unfolding fieldsSay shapeLine shapeOf recordShapes
+unfolding fieldsSay readAs shapeOf records recordShape
 returns-10 c = some (c .before .before .before) (rw (c .before .enum-told9 .given .1) (c .read-as6 .ensures))
 
 returns-11 : tie.Need-returns-11
-unfolding fieldsSay shapeLine shapeOf recordShapes
+unfolding fieldsSay readAs shapeOf records recordShape
 returns-11 c = some (c .before .before .before) (rw (c .before .enum-told10 .given .1) (c .read-as7 .ensures))
 
 pub fields-say-spec : {M : Type 1} → statement M

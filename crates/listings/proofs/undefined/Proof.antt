@@ -13,7 +13,7 @@ use Rattle.listings.proofs.no_undefined.Reads as no-undefined-reads
 use Rattle.soundness.proofs.memory.refusal.Reads as refusal-reads
 use Rattle.state.proofs.header.symbol_count.Reads as symbol-count-reads
 use Rattle.state.proofs.table.symbol_at.Reads as symbol-at-reads
-use Rattle.state.proofs.table.undefined_place.Reads as undefined-place-reads
+use Rattle.state.proofs.table.undefined_position.Reads as undefined-place-reads
 use Rattle.state.proofs.words.highest.Reads as highest-reads
 
 refusal-requires : tie.Need-refusal-requires

@@ -3,7 +3,7 @@
 use mathlib.Core.List.{[], _∷_}
 use mathlib.Core.Path.{sym, ap, _∙_}
 use borrow.Author.Needs.{needs}
-use Rattle.rules.specs.Line.{sameText}
+use Rattle.rules.specs.Text.{sameText}
 use Rattle.line.proofs.PeekLaws.{next-text, star-none, star-not}
 use Rattle.line.proofs.records.is_starred.Statement.{statement}
 use Rattle.line.proofs.records.is_starred.Tie as tie

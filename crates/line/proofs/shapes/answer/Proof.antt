@@ -2,7 +2,8 @@
 -- Assumes nothing.
 use mathlib.Core.Path.{refl, sym, ap, _∙_}
 use Rattle.line.specs.Fitting.{valuesOf}
-use Rattle.line.specs.Shapes.{recordShapes, shapeOf, saidBy}
+use Rattle.rules.specs.Line.{recordShape}
+use Rattle.line.specs.Shapes.{records, shapeOf, saidBy}
 use Rattle.line.proofs.ShapeLaws.{shape-header, last-shape}
 use borrow.Author.Needs.{needs}
 use Rattle.line.proofs.shapes.answer.Statement.{statement}
@@ -63,43 +64,43 @@ array-read-t46 : tie.Need-array-read-t46
 array-read-t46 c = search needs
 
 returns-2 : tie.Need-returns-2
-unfolding saidBy shapeOf recordShapes valuesOf
+unfolding saidBy shapeOf records recordShape valuesOf
 returns-2 c = λ names e. rw (c .before .before .match .keys1, c .before .word .ensures, c .relocation-of .ensures)
 
 returns-3 : tie.Need-returns-3
-unfolding saidBy shapeOf recordShapes valuesOf
+unfolding saidBy shapeOf records recordShape valuesOf
 returns-3 c = λ names e. rw (c .before .match .keys2, c .entry-of .ensures, e)
 
 returns-4 : tie.Need-returns-4
-unfolding saidBy shapeOf recordShapes valuesOf
+unfolding saidBy shapeOf records recordShape valuesOf
 returns-4 c = λ names e. rw (c .before .match .keys3, c .entry-of2 .ensures, e)
 
 returns-5 : tie.Need-returns-5
-unfolding saidBy shapeOf recordShapes valuesOf
+unfolding saidBy shapeOf records recordShape valuesOf
 returns-5 c = λ names e. rw (c .match .keys4, e)
 
 returns-6 : tie.Need-returns-6
-unfolding saidBy shapeOf recordShapes valuesOf
+unfolding saidBy shapeOf records recordShape valuesOf
 returns-6 c = λ names e. rw (c .match .keys5, e)
 
 returns-7 : tie.Need-returns-7
-unfolding saidBy shapeOf recordShapes valuesOf
+unfolding saidBy shapeOf records recordShape valuesOf
 returns-7 c = λ names e. rw (c .match .keys6, e)
 
 returns-8 : tie.Need-returns-8
-unfolding saidBy shapeOf recordShapes valuesOf
+unfolding saidBy shapeOf records recordShape valuesOf
 returns-8 c = λ names e. rw (c .match .keys7)
 
 returns-9 : tie.Need-returns-9
-unfolding saidBy shapeOf recordShapes valuesOf
+unfolding saidBy shapeOf records recordShape valuesOf
 returns-9 c = λ names e. rw (c .match .keys8)
 
 returns-10 : tie.Need-returns-10
-unfolding saidBy shapeOf recordShapes valuesOf
+unfolding saidBy shapeOf records recordShape valuesOf
 returns-10 c = λ names e. rw (c .match .keys9)
 
 returns-11 : tie.Need-returns-11
-unfolding saidBy shapeOf recordShapes valuesOf
+unfolding saidBy shapeOf records recordShape valuesOf
 returns-11 c = λ names e.
     let r = c .match .rest in
     rw (last-shape _ (c .before .if1 .left) (c .before .before .pre) (r .0 .0 .0 .0 .0 .0 .0 .0 .1) (r .0 .0 .0 .0 .0 .0 .0 .1) (r .0 .0 .0 .0 .0 .0 .1) (r .0 .0 .0 .0 .0 .1) (r .0 .0 .0 .0 .1) (r .0 .0 .0 .1) (r .0 .0 .1) (r .0 .1) (r .1))

@@ -5,7 +5,7 @@ use borrow.Author.Needs.{needs}
 use native.Mathlib.Omega.{arith}
 use mathlib.Core.Path.{_≡_, refl, sym, ap, subst, _∙_}
 use Rattle.rules.specs.Search.{round}
-use Rattle.rules.specs.Load.{Walk, wants, place}
+use Rattle.rules.specs.Load.{Walk, takes, place}
 use Rattle.tables.specs.Tables.{modulesIn}
 use Rattle.state.specs.Good.{Good}
 use Rattle.search.specs.Searching.{Agrees, setOf, Swept}
@@ -14,7 +14,7 @@ use Rattle.search.proofs.rounds.one_round.Statement.{statement}
 use Rattle.search.proofs.rounds.one_round.Tie as tie
 
 abbrev Inv-loop : tie.InvT-loop
-Inv-loop parts rows first n fault line index due₀ state₀ marks₀ took₀ number₀ at₀ i₀ due state marks took number at i = (i ≤ n) × Good state × (length state ≡ length state₀) × (length marks ≡ 256) × (took ≤ i) × ((w : Walk) → Agrees w fault line state₀ → Swept (round wants place (modulesIn parts rows first n) (setOf marks₀) w) i took (from parts rows first n i) marks number at state) × Idle parts rows first n number index state due
+Inv-loop parts rows first n fault line index due₀ state₀ marks₀ took₀ number₀ at₀ i₀ due state marks took number at i = (i ≤ n) × Good state × (length state ≡ length state₀) × (length marks ≡ 256) × (took ≤ i) × ((w : Walk) → Agrees w fault line state₀ → Swept (round takes place (modulesIn parts rows first n) (setOf marks₀) w) i took (from parts rows first n i) marks number at state) × Idle parts rows first n number index state due
 
 abbrev μ-loop : tie.MeasureT-loop
 μ-loop parts rows first n fault line index due₀ state₀ marks₀ took₀ number₀ at₀ i₀ due state marks took number at i = n - i
@@ -50,7 +50,7 @@ loop-less-2 : tie.Need-loop-less-2 Inv-loop μ-loop
 loop-less-2 c = omega (arith, c .before .before .loop-test .taken)
 
 loop-again-2 : tie.Need-loop-again-2 Inv-loop μ-loop
-loop-again-2 c = let l = c .before .before .before .loop in let a = c .before .before .before .before .before .before .before .before .before .args in let b = c .before .before .loop-test .taken in (omega arith, l .inv .1, l .inv .2, l .inv .3, omega (arith, l .inv .4), (λ w g. swept-idle (a .parts .now) (a .rows .now) (a .first) (a .n) (l .inv .5 w g) b (omega (arith, c .before .before .before .before .before .before .before .before .before .pre .0 .short, l .inv .3)) (l .inv .1) (λ z. l .inv .6 .unwanted z (l .i) b (c .if1 .left))), l .inv .6)
+loop-again-2 c = let l = c .before .before .before .loop in let a = c .before .before .before .before .before .before .before .before .before .args in let b = c .before .before .loop-test .taken in (omega arith, l .inv .1, l .inv .2, l .inv .3, omega (arith, l .inv .4), (λ w g. swept-idle (a .parts .now) (a .rows .now) (a .first) (a .n) (l .inv .5 w g) b (omega (arith, c .before .before .before .before .before .before .before .before .before .pre .0 .short, l .inv .3)) (l .inv .1) (λ z. l .inv .6 .unneeded z (l .i) b (c .if1 .left))), l .inv .6)
 
 same-length : tie.Need-same-length Inv-loop μ-loop
 same-length c = c .before .loop .inv .6 .size ∙ sym (c .before .before .before .before .before .before .before .pre .1 .0 .size)

@@ -10,10 +10,10 @@ use Rattle.state.proofs.table.guesses.Lts as lts
 use Rattle.state.proofs.table.worth_guessing.Reads as worth-guessing-reads
 
 abbrev Inv-loop : tie.InvT-loop
-Inv-loop state wanted n places₀ i₀ places i = (n ≤ 256) × (length places ≡ 512)
+Inv-loop state wanted n places₀ i₀ positions i = (n ≤ 256) × (length positions ≡ 512)
 
 abbrev μ-loop : tie.MeasureT-loop
-μ-loop state wanted n places₀ i₀ places i = n - i
+μ-loop state wanted n places₀ i₀ positions i = n - i
 
 worth-guessing-requires : tie.Need-worth-guessing-requires Inv-loop μ-loop
 worth-guessing-requires c κs = c .before .pre
@@ -46,7 +46,7 @@ loop-less : tie.Need-loop-less Inv-loop μ-loop
 loop-less c = omega arith
 
 loop-again : tie.Need-loop-again Inv-loop μ-loop
-loop-again c = (c .before .before .loop .inv .0, length-set {A = ℕ} (c .before .before .loop .places) _ _ ∙ c .before .before .loop .inv .1)
+loop-again c = (c .before .before .loop .inv .0, length-set {A = ℕ} (c .before .before .loop .positions) _ _ ∙ c .before .before .loop .inv .1)
 
 returns : tie.Need-returns Inv-loop μ-loop
 returns c = search needs

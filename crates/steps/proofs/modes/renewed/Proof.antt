@@ -1,16 +1,16 @@
--- `steps::modes::renewed` meets its contract: what is wanted stays.
+-- `steps::modes::renewed` meets its contract: what is expected stays.
 -- Assumes nothing.
 use borrow.Author.Needs.{needs}
-use Rattle.rules.specs.Reading.{want}
+use Rattle.rules.specs.Reading.{expect}
 use Rattle.steps.proofs.modes.renewed.Statement.{statement}
 use Rattle.steps.proofs.modes.renewed.Tie as tie
 
-want-requires : tie.Need-want-requires
-want-requires c κs = search needs
+expect-requires : tie.Need-expect-requires
+expect-requires c κs = search needs
 
 returns : tie.Need-returns
-unfolding want
-returns c = c .want .ensures
+unfolding expect
+returns c = c .expect .ensures
 
 pub renewed-spec : {M : Type 1} → statement M
-renewed-spec = tie.close (tie.spec want-requires returns)
+renewed-spec = tie.close (tie.spec expect-requires returns)

@@ -13,13 +13,13 @@ returns : tie.Need-returns
 unfolding parameterStep
 returns c = rw (eq-eqb _ _ (c .before .if1 .taken)) (ap Next (c .record-done .ensures))
 
-want-subs-requires : tie.Need-want-subs-requires
-want-subs-requires c κs = search needs
+expect-subs-requires : tie.Need-expect-subs-requires
+expect-subs-requires c κs = search needs
 
 returns-2 : tie.Need-returns-2
 unfolding parameterStep
-returns-2 c = rw (ne-eqb _ _ (c .before .if1 .left)) (ap Next (c .want-subs .ensures))
+returns-2 c = rw (ne-eqb _ _ (c .before .if1 .left)) (ap Next (c .expect-subs .ensures))
 
 pub parameter-step-spec : {M : Type 1} → statement M
 parameter-step-spec =
-    tie.close (tie.spec record-done-requires returns want-subs-requires returns-2)
+    tie.close (tie.spec record-done-requires returns expect-subs-requires returns-2)

@@ -13,16 +13,16 @@ returns : tie.Need-returns
 unfolding subStep
 returns c = rw (le-leb _ _ (c .before .if1 .taken)) (ap Next (c .record-done .ensures))
 
-sub-want-subs : tie.Need-sub-want-subs
-sub-want-subs c = search needs
+sub-expect-subs : tie.Need-sub-expect-subs
+sub-expect-subs c = search needs
 
-want-subs-requires : tie.Need-want-subs-requires
-want-subs-requires c κs = search needs
+expect-subs-requires : tie.Need-expect-subs-requires
+expect-subs-requires c κs = search needs
 
 returns-2 : tie.Need-returns-2
 unfolding subStep
-returns-2 c = rw (lt-leb _ _ (c .before .if1 .left)) (ap Next (c .want-subs .ensures))
+returns-2 c = rw (lt-leb _ _ (c .before .if1 .left)) (ap Next (c .expect-subs .ensures))
 
 pub sub-step-spec : {M : Type 1} → statement M
 sub-step-spec =
-    tie.close (tie.spec record-done-requires returns sub-want-subs want-subs-requires returns-2)
+    tie.close (tie.spec record-done-requires returns sub-expect-subs expect-subs-requires returns-2)

@@ -3,7 +3,7 @@
 use mathlib.Core.Path.{sym, ap, _∙_}
 use borrow.Author.Needs.{needs}
 use Rattle.rules.specs.Text.{bytes}
-use Rattle.rules.specs.Line.{sameText}
+use Rattle.rules.specs.Text.{sameText}
 use Rattle.text.specs.Scan.{part}
 use Rattle.text.proofs.MarkerLaws.{Marked, same-none, no-marker, starts, markers, marked}
 use Rattle.text.proofs.markers.is_marker.Statement.{statement}

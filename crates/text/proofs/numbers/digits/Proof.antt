@@ -14,8 +14,8 @@ Inv-loop file at stop most value₀ i₀ value i = Run at stop file i value
 abbrev μ-loop : tie.MeasureT-loop
 μ-loop file at stop most value₀ i₀ value i = most - i
 
-six-on-requires : tie.Need-six-on-requires Inv-loop μ-loop
-six-on-requires c κs = search needs
+digits-on-requires : tie.Need-digits-on-requires Inv-loop μ-loop
+digits-on-requires c κs = search needs
 
 loop-holds : tie.Need-loop-holds Inv-loop μ-loop
 loop-holds c = run-start _ _ _ (c .before .before .pre)
@@ -51,7 +51,7 @@ loop-again c =
 
 returns-3 : tie.Need-returns-3 Inv-loop μ-loop
 returns-3 c =
-    run-end (c .before .loop .inv) (λ h g. absurd (omega (arith, c .before .before .six-on .ensures, c .loop-test .left)))
+    run-end (c .before .loop .inv) (λ h g. absurd (omega (arith, c .before .before .digits-on .ensures, c .loop-test .left)))
 
 pub digits-spec : {M : Type 1} → statement M
 digits-spec =
@@ -59,7 +59,7 @@ digits-spec =
     (tie.spec
     Inv-loop
     μ-loop
-    six-on-requires
+    digits-on-requires
     loop-holds
     shared-slice-read-digit
     returns

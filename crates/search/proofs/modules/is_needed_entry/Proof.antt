@@ -1,8 +1,8 @@
 use borrow.Author.Tests.{not-true, not-false}
 use mathlib.Core.Path.{sym, _∙_}
 use borrow.Author.Needs.{needs}
-use Rattle.search.proofs.modules.is_wanted.Statement.{statement}
-use Rattle.search.proofs.modules.is_wanted.Tie as tie
+use Rattle.search.proofs.modules.is_needed_entry.Statement.{statement}
+use Rattle.search.proofs.modules.is_needed_entry.Tie as tie
 
 is-entry-requires : tie.Need-is-entry-requires
 is-entry-requires c κs = search needs

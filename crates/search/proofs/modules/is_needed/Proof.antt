@@ -6,8 +6,8 @@ use Prim.Native.Nat.{_-_, _≤_}
 use Rattle.state.specs.Layout.{decode}
 use Rattle.parts.specs.Cells.{partsFrom}
 use Rattle.search.proofs.ModuleLaws.{wantedFrom, wanted-is, wanted-turn, wanted-done}
-use Rattle.search.proofs.modules.wants.Statement.{statement}
-use Rattle.search.proofs.modules.wants.Tie as tie
+use Rattle.search.proofs.modules.takes.Statement.{statement}
+use Rattle.search.proofs.modules.takes.Tie as tie
 
 abbrev Inv-loop : tie.InvT-loop
 Inv-loop parts state n i₀ i = (i ≤ n) × (n ≡ length parts) × (wantedFrom (decode state) (partsFrom parts i) ≡ wantedFrom (decode state) (partsFrom parts 0))

@@ -1,18 +1,18 @@
 use Rattle.state.proofs.SymbolLaws.{place-of-first, place-of-later, place-past-defined, place-of-none}
-use Rattle.state.specs.Table.{undefinedPlace}
+use Rattle.state.specs.Table.{undefinedPosition}
 use Rattle.state.specs.Layout.{symbolsFrom, decode}
 use lib.ListN.{getD}
 use native.Mathlib.Omega.{arith}
 use mathlib.Core.Path.{_≡_, refl}
 use mathlib.Core.Logic.{⊎-elim}
 use Prim.Native.Nat.{_+_, _-_, _≤_}
-use Rattle.state.proofs.table.undefined_place.Statement.{statement}
-use Rattle.state.proofs.table.undefined_place.Tie as tie
+use Rattle.state.proofs.table.undefined_position.Statement.{statement}
+use Rattle.state.proofs.table.undefined_position.Tie as tie
 
 abbrev Inv-loop : tie.InvT-loop
 Inv-loop state k n more₀ i₀ more i = (i ≤ n)
     × (n ≡ getD state 0 0)
-    × (i + undefinedPlace more (symbolsFrom state i) ≡ undefinedPlace k (decode state .symbols))
+    × (i + undefinedPosition more (symbolsFrom state i) ≡ undefinedPosition k (decode state .symbols))
 
 abbrev μ-loop : tie.MeasureT-loop
 μ-loop state k n more₀ i₀ more i = n - i

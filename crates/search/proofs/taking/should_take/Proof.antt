@@ -1,17 +1,17 @@
 use borrow.Author.Tests.{eq-eqb, ne-eqb}
 use Rattle.state.specs.Layout.{decode}
-use Rattle.search.specs.Searching.{takes}
+use Rattle.search.specs.Searching.{shouldTake}
 use Rattle.search.proofs.TurnLaws.{wanted-row}
 use borrow.Author.Needs.{needs}
-use Rattle.search.proofs.taking.is_due.Statement.{statement}
-use Rattle.search.proofs.taking.is_due.Tie as tie
+use Rattle.search.proofs.taking.should_take.Statement.{statement}
+use Rattle.search.proofs.taking.should_take.Tie as tie
 
 returns : tie.Need-returns
-unfolding takes
+unfolding shouldTake
 returns c = simp (c .if1 .taken)
 
 returns-2 : tie.Need-returns-2
-unfolding takes
+unfolding shouldTake
 returns-2 c = simp (c .before .if1 .left, ne-eqb _ _ (c .if2 .taken))
 
 module-cells-requires : tie.Need-module-cells-requires
@@ -21,8 +21,8 @@ wants-requires : tie.Need-wants-requires
 wants-requires c κs = search needs
 
 returns-3 : tie.Need-returns-3
-unfolding takes
-returns-3 c = let a = c .before .before .before .before .before .before .before .args in simp (c .before .before .before .if1 .left, eq-eqb _ _ (c .before .before .if2 .left)) (wanted-row (a .parts .now) (a .rows .now) (a .row) (c .before .module-cells .ensures) (decode (a .state .now)) (c .wants .ensures))
+unfolding shouldTake
+returns-3 c = let a = c .before .before .before .before .before .before .before .args in simp (c .before .before .before .if1 .left, eq-eqb _ _ (c .before .before .if2 .left)) (wanted-row (a .parts .now) (a .rows .now) (a .row) (c .before .module-cells .ensures) (decode (a .state .now)) (c .takes .ensures))
 
 pub is-due-spec : {M : Type 1} → statement M
 is-due-spec = tie.close (tie.spec returns returns-2 module-cells-requires wants-requires returns-3)
