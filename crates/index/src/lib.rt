@@ -1,8 +1,9 @@
 // The entries of a library section, by name: is a name entered twice, and which module enters a name?
 //
-// The index is one lent array. Cell 0 counts the entries. Then come 2,048 slots: each names, from 1, the last entry whose name falls
-// into it. Then the entries in file order: the part, the entry before it in its slot, and the module. So a name is compared with those
-// of its slot alone, a few where names spread over the slots; names chosen to share one slot are still compared pair by pair.
+// The index is one lent array. Cell 0 counts the entries. Then come 2,048 cells of slots: a name falls into one of the first 2,039,
+// by its remainder, and the slot names, from 1, the last entry that fell into it. Then the entries in file order: the part, the
+// entry before it in its slot, and the module. So a name is compared with those of its slot alone, a few where names spread over
+// the slots; names chosen to share one slot are still compared pair by pair.
 use tables::cells::body_at;
 use tables::cells::head_at;
 use tables::heads::is_entry;

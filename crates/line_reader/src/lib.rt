@@ -38,7 +38,8 @@ pub fn next<'a>(reader: LineReader<'a>) -> LineSpan
     next_line(reader.src, reader.at)
 }
 
-// The same for a caller that holds the file and the position apart. It is covered like any other, and needs no proof by hand.
+// The same for a caller that holds the file and the position apart. It has a reader on the way, so it is proved by hand too; its
+// callers have none, and are covered.
 pub fn line_from(file: &[u8], at: usize) -> LineSpan
     requires { ⌜ at < length (now file) ⌝ }
     ensures { λ r. ⌜ NextLine at (now (file .entry)) r ⌝ }
