@@ -20,6 +20,7 @@ use tables::rows::row_line;
 use tables::rows::row_start;
 ghost use Prim.Native.Nat.{_<_, _≤_};
 ghost use lib.ListN.{length};
+ghost use Rattle.rules.specs.Limits.{longestFile};
 
 pub fn say(text: &[u8]) {
     io::write_all(STDOUT_FILENO, text);

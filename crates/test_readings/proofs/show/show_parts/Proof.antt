@@ -1,4 +1,4 @@
--- `readings::show::show_parts` is safe and ends: the measure is how far `i` is from `n`. Assumes nothing.
+-- `test_readings::show::show_parts` is safe and ends: the measure is how far `i` is from `n`. Assumes nothing.
 use Prim.Native.Nat.{_≤_, _-_}
 use borrow.Author.Needs.{needs}
 use Rattle.test_readings.proofs.show.show_parts.Statement.{statement}
@@ -13,20 +13,11 @@ abbrev μ-loop : tie.MeasureT-loop
 loop-holds : tie.Need-loop-holds Inv-loop μ-loop
 loop-holds c = search needs
 
-mul-cell : tie.Need-mul-cell Inv-loop μ-loop
-mul-cell c = search needs
+head-at-requires : tie.Need-head-at-requires Inv-loop μ-loop
+head-at-requires c κs = search needs
 
-cell-requires : tie.Need-cell-requires Inv-loop μ-loop
-cell-requires c κs = search needs
-
-mul-cell-2 : tie.Need-mul-cell-2 Inv-loop μ-loop
-mul-cell-2 c = search needs
-
-add-cell : tie.Need-add-cell Inv-loop μ-loop
-add-cell c = search needs
-
-cell-requires-2 : tie.Need-cell-requires-2 Inv-loop μ-loop
-cell-requires-2 c κs = search needs
+body-at-requires : tie.Need-body-at-requires Inv-loop μ-loop
+body-at-requires c κs = search needs
 
 part-of-requires : tie.Need-part-of-requires Inv-loop μ-loop
 part-of-requires c κs = search needs
@@ -53,11 +44,8 @@ show-parts-spec =
     Inv-loop
     μ-loop
     loop-holds
-    mul-cell
-    cell-requires
-    mul-cell-2
-    add-cell
-    cell-requires-2
+    head-at-requires
+    body-at-requires
     part-of-requires
     show-part-requires
     add-i

@@ -1,4 +1,4 @@
--- `readings::show::show_rows` is safe and ends: the measure is how far `i` is from `n`. Assumes nothing.
+-- `test_readings::show::show_rows` is safe and ends: the measure is how far `i` is from `n`. Assumes nothing.
 use Prim.Native.Nat.{_≤_, _-_}
 use borrow.Author.Needs.{needs}
 use Rattle.test_readings.proofs.show.show_rows.Statement.{statement}
@@ -12,21 +12,6 @@ abbrev μ-loop : tie.MeasureT-loop
 
 loop-holds : tie.Need-loop-holds Inv-loop μ-loop
 loop-holds c = search needs
-
-mul-cell : tie.Need-mul-cell Inv-loop μ-loop
-mul-cell c = search needs
-
-cell-requires : tie.Need-cell-requires Inv-loop μ-loop
-cell-requires c κs = search needs
-
-mul-cell-2 : tie.Need-mul-cell-2 Inv-loop μ-loop
-mul-cell-2 c = search needs
-
-add-cell : tie.Need-add-cell Inv-loop μ-loop
-add-cell c = search needs
-
-cell-requires-2 : tie.Need-cell-requires-2 Inv-loop μ-loop
-cell-requires-2 c κs = search needs
 
 show-row-requires : tie.Need-show-row-requires Inv-loop μ-loop
 show-row-requires c κs = search needs
@@ -50,11 +35,6 @@ show-rows-spec =
     Inv-loop
     μ-loop
     loop-holds
-    mul-cell
-    cell-requires
-    mul-cell-2
-    add-cell
-    cell-requires-2
     show-row-requires
     add-i
     loop-less
