@@ -1,10 +1,10 @@
 // The line for a refused call.
-use answers::answer_name;
 use crate::page::front;
 use crate::page::put;
 use crate::page::put_number;
 use crate::page::put_text;
 use crate::page::say;
+use answers::answer_name;
 use rules::answer::DONE;
 use rules::answer::RESET;
 

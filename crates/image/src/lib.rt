@@ -11,7 +11,7 @@ use state::words::text;
 ghost use mathlib.Core.List.{_∷_};
 ghost use mathlib.Core.Path.{_≡_};
 ghost use Prim.Native.Nat.{_+_, _≤_, _<_};
-ghost use lib.ListN.{length, getD};
+ghost use lib.ListN.{length};
 ghost use Rattle.rules.specs.Limits.{programWords};
 ghost use Rattle.rules.specs.Image.{two, quarters, wordRecord, completed, imageOf};
 ghost use Rattle.state.specs.Layout.{decode};

@@ -218,8 +218,8 @@ module _ (parts rows : List ℕ) (first n m : ℕ) where
           ∙ lent-cell parts (2 * startIn rows (first + m)) (2 * endIn rows (first + m) - 2 * startIn rows (first + m)) (2 * q + 1) (subst (λ c. 2 * q + 1 < length c) lent (omega arith))
           ∙ ap (λ i. getD parts i 0) at
 
-      pub place-small : length parts ≤ 131072 → part < 65536
-      place-small h =
+      pub part-small : length parts ≤ 131072 → part < 65536
+      part-small h =
           let b : 2 * q + 1 < length (cellsIn parts (startIn rows (first + m)) (endIn rows (first + m))) =
           subst (λ c. 2 * q + 1 < length c) lent (omega arith) in
           omega (

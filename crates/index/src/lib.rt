@@ -13,10 +13,10 @@ use tables::rows::row_start;
 ghost use Prim.Native.Nat.{ℕ, _+_, _-_, _<_, _≤_};
 ghost use mathlib.Core.Bool.{true};
 ghost use mathlib.Core.Path.{_≡_};
-ghost use lib.ListN.{length, getD};
+ghost use lib.ListN.{length};
 ghost use Rattle.rules.specs.Limits.{mostModules, mostEntries};
 ghost use Rattle.rules.specs.Load.{entryNames};
-ghost use Rattle.tables.specs.Tables.{headIn, moduleIn};
+ghost use Rattle.tables.specs.Tables.{mostCells, headIn, moduleIn};
 ghost use Rattle.tables.specs.Heads.{isEntry};
 ghost use Rattle.index.specs.Index.{size, countOf, slotOf, ownerAt, Indexed, Found, Added, PartAdded, Filled, ModuleAdded, Cleared, Tested};
 
@@ -72,7 +72,7 @@ pub fn owner(index: &[u64], k: usize) -> usize
 
 // Adds the entry that is this part of a module.
 fn add(parts: &[u64], part: usize, owner: usize, index: &mut [u64])
-    requires { ⌜ (part < 65536) × (owner < 256) ⌝ }
+    requires { ⌜ (part < 65536) × (owner < mostModules) ⌝ }
     requires { ⌜ Indexed (now parts) (now index) × (countOf (now index) < 16384) ⌝ }
     ensures { λ r. ⌜ Added (now (parts .entry)) part owner (now (index .entry)) (now (index .exit)) ⌝ }
 {
@@ -86,7 +86,7 @@ fn add(parts: &[u64], part: usize, owner: usize, index: &mut [u64])
 
 // Adds a part of a module, if it is an entry. Was an entry of its name there?
 fn add_part(parts: &[u64], part: usize, owner: usize, index: &mut [u64]) -> bool
-    requires { ⌜ (part < 65536) × (owner < 256) ⌝ }
+    requires { ⌜ (part < 65536) × (owner < mostModules) ⌝ }
     requires { ⌜ Indexed (now parts) (now index) × (isEntry (headIn (now parts) part) ≡ true → countOf (now index) < 16384) ⌝ }
     ensures { λ r. ⌜ PartAdded (now (parts .entry)) part owner (now (index .entry)) r (now (index .exit)) ⌝ }
 {
@@ -110,7 +110,7 @@ fn add_module(
     index: &mut [u64],
 ) -> bool
     requires { ⌜ (first ≤ 65535) × (n ≤ mostModules) × (m < n) ⌝ }
-    requires { ⌜ length (now parts) ≤ 131072 ⌝ }
+    requires { ⌜ length (now parts) ≤ mostCells ⌝ }
     requires { ⌜ length (entryNames (moduleIn (now parts) (now rows) (first + m))) ≤ mostEntries ⌝ }
     requires { ⌜ Filled (now parts) (now rows) first n m (now index) ⌝ }
     ensures { λ r. ⌜ ModuleAdded (now (parts .entry)) (now (rows .entry)) first n m r (now (index .exit)) ⌝ }
@@ -144,7 +144,7 @@ fn clear(index: &mut [u64])
 // Makes the index of a section's modules. Is a name an entry twice? The index is then of no use.
 pub fn repeats(parts: &[u64], rows: &[u64], section: Section, index: &mut [u64]) -> bool
     requires { ⌜ (section .first ≤ 65535) × (section .count ≤ mostModules) ⌝ }
-    requires { ⌜ length (now parts) ≤ 131072 ⌝ }
+    requires { ⌜ length (now parts) ≤ mostCells ⌝ }
     requires { ⌜ ((i : ℕ) → i < section .count → length (entryNames (moduleIn (now parts) (now rows) (section .first + i))) ≤ mostEntries) ⌝ }
     requires { ⌜ length (now index) ≡ size ⌝ }
     ensures { λ r. ⌜ Tested (now (parts .entry)) (now (rows .entry)) (section .first) (section .count) r (now (index .exit)) ⌝ }

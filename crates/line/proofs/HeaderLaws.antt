@@ -17,7 +17,7 @@ use Rattle.rules.specs.declared.line.LineAnswer.the-variants.{Bad, Blank}
 use Rattle.rules.proofs.BoolLaws.{never}
 use Rattle.text.specs.Scan.{part, InFile}
 use Rattle.text.specs.FieldBounds.{fieldStart, fieldStop}
-use Rattle.text.specs.Answers.{numberIn}
+use Rattle.text.specs.Values.{numberIn}
 use Rattle.text.specs.declared.numbers.Number.{Number}
 use Rattle.text.specs.declared.numbers.Number.the-variants.{Value, NotANumber}
 use Rattle.text.proofs.FieldLaws.{field, field-found, no-field}

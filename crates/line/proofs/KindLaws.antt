@@ -14,7 +14,7 @@ use Rattle.rules.specs.Text.{sameText}
 use Rattle.rules.specs.declared.line.FaultKind.{FaultKind}
 use Rattle.rules.specs.declared.line.FaultKind.the-variants.{BadMarker, BadNumber, BadName}
 use Rattle.rules.specs.declared.line.Kind.the-variants.{Number, Name, Marker}
-use Rattle.text.specs.Answers.{numberIn, nameIn}
+use Rattle.text.specs.Values.{numberIn, nameIn}
 use Rattle.text.specs.declared.numbers.Number.{Number as AnyNumber}
 use Rattle.text.specs.declared.numbers.Number.the-variants.{Value, NotANumber}
 use Rattle.text.specs.declared.names.Name.{Name as AnyName}

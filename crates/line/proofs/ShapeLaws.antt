@@ -57,7 +57,7 @@ unfoldable pub tabulate : {A : Type 0} → (ℕ → A) → ℕ → List A
 tabulate f zero = []
 tabulate f (suc n) = f n ∷ tabulate f n
 
--- tables that are equal, at each place
+-- tables that are equal, at each index
 pub at-place : {A : Type 0} (f g : ℕ → A) (n : ℕ) → tabulate f n ≡ tabulate g n → (k : ℕ) → k < n → f k ≡ g k
 unfolding tabulate
 at-place {A} f g zero e k h = absurd (omega arith)

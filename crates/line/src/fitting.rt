@@ -16,7 +16,7 @@ ghost use Rattle.rules.specs.Line.{fault};
 ghost use Rattle.text.specs.Scan.{InFile};
 ghost use Rattle.line.specs.Fitting.{kindOf, asFitted, fitLine, Misfit};
 
-// What the fields hold, each at its place, or the leftmost fault among them.
+// What the fields hold, each at its index, or the leftmost fault among them.
 pub struct FieldsRead {
     pub fits: bool,
     pub fault: Fault,

@@ -11,11 +11,12 @@ use crate::shapes::OPENING;
 use crate::shapes::PARAMETER;
 use crate::shapes::SUB;
 use crate::shapes::read_as;
+use rules::line::Expected;
 use rules::line::FaultKind;
 use rules::line::LineAnswer;
-use rules::line::Expected;
 use text::fields::field_start;
 ghost use mathlib.Core.Path.{_≡_};
+ghost use Rattle.rules.specs.Limits.{longestLine};
 ghost use Rattle.rules.specs.Text.{legalFront};
 ghost use Rattle.rules.specs.Line.{lineOf, testBytes, lineAnswer};
 ghost use Rattle.text.specs.Scan.{part, InFile};
@@ -69,9 +70,15 @@ fn test_bytes(front: usize, size: usize, answer: LineAnswer) -> LineAnswer
 
 // What the line from `at` to `stop` of the file says, given what is expected of it; `front` of its bytes are legal before one is
 // not.
-pub fn line_answer(file: &[u8], at: usize, stop: usize, front: usize, expected: Expected) -> LineAnswer
+pub fn line_answer(
+    file: &[u8],
+    at: usize,
+    stop: usize,
+    front: usize,
+    expected: Expected,
+) -> LineAnswer
     requires { ⌜ InFile at stop (now file) ⌝ }
-    requires { ⌜ front ≡ legalFront 80 (part at stop (now file)) ⌝ }
+    requires { ⌜ front ≡ legalFront longestLine (part at stop (now file)) ⌝ }
     ensures { λ r. ⌜ r ≡ lineAnswer expected (part at stop (now (file .entry))) ⌝ }
 {
     test_bytes(front, stop - at, fields_say(file, at, stop, expected))

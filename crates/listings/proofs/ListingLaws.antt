@@ -29,16 +29,16 @@ none-at p (s ∷ t) zero d h l = none-first p s t h
 none-at p (s ∷ t) (suc i) d h l = none-at p t i d (none-rest p s t h) (omega arith)
 
 -- where names differ, a symbol's name leads to its position
-pub place-unique : (t : List Symbol) (i : ℕ) (d : Symbol) → differentNames t ≡ true → i < length t → positionOf (getD t i d .name) t ≡ i
+pub position-unique : (t : List Symbol) (i : ℕ) (d : Symbol) → differentNames t ≡ true → i < length t → positionOf (getD t i d .name) t ≡ i
 unfolding positionOf isSymbol
-place-unique [] i d h l = absurd (omega arith)
-place-unique (s ∷ t) zero d h l = rw (eq-eqb (s .name) (s .name) refl)
-place-unique (s ∷ t) (suc i) d h l =
+position-unique [] i d h l = absurd (omega arith)
+position-unique (s ∷ t) zero d h l = rw (eq-eqb (s .name) (s .name) refl)
+position-unique (s ∷ t) (suc i) d h l =
     let parted = different-cons s t h in
     let x = getD t i d .name in
     let other : eqb (s .name) x ≡ false =
     ne-eqb (s .name) x (λ e. eqb-false x (s .name) (none-at (nameIs (s .name)) t i d (parted .0) (omega arith)) (sym e)) in
-    rw (other, place-unique t i d (parted .1) (omega arith)) (add-one i)
+    rw (other, position-unique t i d (parted .1) (omega arith)) (add-one i)
 
 -- ---- the undefined symbols
 
@@ -173,5 +173,5 @@ module _ (cells : List ℕ) (s : State) (h : lent cells ≡ holding s) where
         let y = getD (undefinedOnly (s .symbols)) k noSymbol in
         let same : getD (s .symbols) p noSymbol ≡ y = ap (λ i. getD (s .symbols) i noSymbol) at ∙ u .is in
         let position : positionOf (y .name) (s .symbols) ≡ p =
-        ap (λ (z : Symbol). positionOf (z .name) (s .symbols)) (sym same) ∙ place-unique (s .symbols) p noSymbol d (omega arith) in
+        ap (λ (z : Symbol). positionOf (z .name) (s .symbols)) (sym same) ∙ position-unique (s .symbols) p noSymbol d (omega arith) in
         rw h (simp there (rw (q, same, r, position)))

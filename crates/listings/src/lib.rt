@@ -10,7 +10,7 @@ use state::table::symbol_at;
 use state::table::undefined_position;
 use state::words::highest;
 ghost use mathlib.Core.Path.{_≡_};
-ghost use Rattle.rules.specs.Calls.{memoryAnswer, symbolNone, undefinedNone, memory as memory-answer, symbols as symbols-answer, undefined as undefined-answer};
+ghost use Rattle.rules.specs.Calls.{symbolNone, undefinedNone, memory as memory-answer, symbols as symbols-answer, undefined as undefined-answer};
 ghost use Rattle.state.specs.Layout.{lent};
 
 // HIGH.

@@ -25,7 +25,7 @@ ghost use Rattle.rules.specs.Load.{walked, walkFrom, loadFile};
 ghost use Rattle.rules.specs.Calls.{loadAnswer, loadOutcome, loadLent, load as load-outcome, workAfter};
 ghost use Rattle.rules.proofs.TestLaws.{Every};
 ghost use Rattle.rules.proofs.ReadingLaws.{ItemSound};
-ghost use Rattle.tables.specs.Tables.{itemsIn};
+ghost use Rattle.tables.specs.Tables.{mostCells, itemsIn};
 ghost use Rattle.state.specs.Layout.{lent, decode};
 ghost use Rattle.state.specs.Good.{Good};
 ghost use Rattle.state.specs.Promise.{Called};
@@ -46,7 +46,7 @@ fn answer(number: u64, line: u64, rounds: u64) -> LoadAnswer
 
 // The walk over n rows. A refusal leaves the state as it was, but for the broken mark.
 fn walk_file(parts: &[u64], rows: &[u64], n: usize, state: &mut [u64]) -> LoadAnswer
-    requires { ⌜ (n ≤ 131072) × (length (now parts) ≤ 131072) ⌝ }
+    requires { ⌜ (n ≤ mostCells) × (length (now parts) ≤ mostCells) ⌝ }
     requires { ⌜ Every ItemSound (itemsIn (now parts) (now rows) n) ⌝ }
     requires { ⌜ Good (now state) ⌝ }
     ensures { λ r. ⌜ Called (loadOutcome (walked (decode (now (state .entry))) (walkFrom (decode (now (state .entry))) (itemsIn (now (parts .entry)) (now (rows .entry)) n)))) (now (state .entry)) r (now (state .exit)) ⌝ }

@@ -18,13 +18,13 @@ use Rattle.rules.specs.declared.line.Relocation.{Relocation}
 use Rattle.rules.specs.declared.line.Relocation.the-variants.{Plain, External, Unread}
 use Rattle.rules.proofs.BoolLaws.{cond-cases, never, or-off, eqb-same}
 use Rattle.rules.proofs.TableLaws.{symbol-mention, symbol-mentionAll}
-use Rattle.rules.proofs.SoundLaws.{place-below}
+use Rattle.rules.proofs.SoundLaws.{position-below}
 use Rattle.rules.proofs.TestLaws.{none-first, none-rest}
 use Rattle.placing.specs.Passes.{badCode}
 use Rattle.placing.specs.Effects.{plainAll, relink, linkAt, positionsOf}
 use Rattle.placing.proofs.WordLaws.{clash-cons}
 
--- ---- a place does not move when the table grows
+-- ---- a position does not move when the table grows
 
 position-new : (x : ℕ) (t : List Symbol) → positionOf x (mention x t) ≡ positionOf x t
 unfolding positionOf mention
@@ -56,7 +56,7 @@ positions-map (x ∷ xs) t =
     let there : isSymbol x (mention x t) ≡ true = symbol-mention x x t ∙ rw (eqb-same x) in
     ap₂ _∷_ (sym (positions-stay x xs (mention x t) there ∙ position-new x t)) (positions-map xs (mention x t))
 
--- what stands at place k, for the externals of a module that joined
+-- what stands at index k, for the externals of a module that joined
 module _ (xs : List ℕ) (t : List Symbol) (at : List ℕ) (e : take (length xs) at ≡ positionsOf xs t) (k : ℕ) (h : k < length xs) where
   pub position-at : getD at k 0 ≡ positionOf (getD xs k 0) (mentionAll xs t)
   position-at =
@@ -74,7 +74,7 @@ module _ (xs : List ℕ) (t : List Symbol) (at : List ℕ) (e : take (length xs)
   position-there =
       let x : ℕ = getD xs k 0 in
       let there : isSymbol x (mentionAll xs t) ≡ true = symbol-mentionAll x xs t ∙ rw (any-here xs k h) in
-      subst (λ p. p < length (mentionAll xs t)) (sym position-at) (place-below x (mentionAll xs t) there)
+      subst (λ p. p < length (mentionAll xs t)) (sym position-at) (position-below x (mentionAll xs t) there)
     where
       any-here : (xs : List ℕ) (k : ℕ) → k < length xs → any (eqb (getD xs k 0)) xs ≡ true
       any-here [] k h = absurd (not-suc-le-zero h)

@@ -27,7 +27,7 @@ use tables::rows::row_line;
 ghost use Prim.Native.Nat.{_<_};
 ghost use Rattle.rules.specs.Reading.{moduleAt};
 ghost use Rattle.rules.proofs.ReadingLaws.{ModuleSound};
-ghost use Rattle.tables.specs.Tables.{partsOf, moduleIn};
+ghost use Rattle.tables.specs.Tables.{mostCells, partsOf, moduleIn};
 ghost use Rattle.state.specs.Layout.{decode};
 ghost use Rattle.state.specs.Good.{Good};
 ghost use Rattle.placing.specs.Effects.{Tried};
@@ -77,7 +77,7 @@ pub fn place_row(
     refusal: Refusal,
     state: &mut [u64],
 ) -> Refusal
-    requires { ⌜ row < 131072 ⌝ }
+    requires { ⌜ row < mostCells ⌝ }
     requires { ⌜ ModuleSound (moduleIn (now parts) (now rows) row) ⌝ }
     requires { ⌜ Good (now state) ⌝ }
     ensures { λ r. ⌜ PlacedRow (moduleIn (now (parts .entry)) (now (rows .entry)) row) refusal (now (state .entry)) r (now (state .exit)) ⌝ }

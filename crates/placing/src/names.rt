@@ -2,12 +2,11 @@
 use state::table::is_defined;
 use tables::heads::is_entry;
 ghost use Prim.Native.Nat.{_+_, _-_, _<_, _≤_};
-ghost use mathlib.Core.Bool.{_&&_, _||_};
+ghost use mathlib.Core.Bool.{_&&_};
 ghost use mathlib.Core.Path.{_≡_};
-ghost use lib.ListN.{length, getD};
+ghost use lib.ListN.{length};
 ghost use lib.Dec.{eqb};
 ghost use Rattle.rules.specs.Text.{any};
-ghost use Rattle.rules.specs.State.{isDefined};
 ghost use Rattle.state.specs.Layout.{decode};
 ghost use Rattle.state.specs.Good.{Good};
 ghost use Rattle.tables.specs.Heads.{partsFrom, namesIn, isEntry};

@@ -3,7 +3,10 @@ use crate::names::duplicates;
 use rules::answer::DONE;
 use rules::answer::DUPLICATE;
 use rules::answer::TABLE;
+use rules::limits::EXTERNAL_ROOM;
 use rules::limits::MOST_SYMBOLS;
+use state::table::GUESSES;
+use state::table::REMAINDERS;
 use state::table::define;
 use state::table::is_defined;
 use state::table::mention_at;
@@ -14,6 +17,8 @@ ghost use Prim.Native.Nat.{_-_, _+_, _<_, _≤_};
 ghost use mathlib.Core.Bool.{false, cond};
 ghost use mathlib.Core.Path.{_≡_};
 ghost use lib.ListN.{length};
+ghost use Rattle.rules.specs.Answers.{DUPLICATE, TABLE};
+ghost use Rattle.rules.specs.Limits.{programWords, mostExternals};
 ghost use Rattle.rules.specs.Text.{any};
 ghost use Rattle.rules.specs.Placing.{entriesIn, externalsIn};
 ghost use Rattle.tables.specs.Tables.{partsOf};
@@ -27,14 +32,18 @@ ghost use Rattle.placing.specs.Effects.{EnteredPart, Entered, Mentioned}
 fn full_fault(parts: &[u64], at: usize, state: &[u64]) -> u64
     requires { ⌜ at ≤ length (now parts) ⌝ }
     requires { ⌜ Good (now state) ⌝ }
-    ensures { λ r. ⌜ r ≡ cond (repeated (decode (now (state .entry)) .symbols) (namesIn (partsFrom (now (parts .entry)) at))) 13 14 ⌝ }
+    ensures { λ r. ⌜ r ≡ cond (repeated (decode (now (state .entry)) .symbols) (namesIn (partsFrom (now (parts .entry)) at))) DUPLICATE TABLE ⌝ }
 {
-    if duplicates(parts, at, state) { DUPLICATE } else { TABLE }
+    if duplicates(parts, at, state) {
+        DUPLICATE
+    } else {
+        TABLE
+    }
 }
 
 // Enters the part at cell `at`, if it is an entry.
 fn enter_part(parts: &[u64], at: usize, base: usize, state: &mut [u64]) -> u64
-    requires { ⌜ base ≤ 4096 ⌝ }
+    requires { ⌜ base ≤ programWords ⌝ }
     requires { ⌜ 1 < length (now parts) - at ⌝ }
     requires { ⌜ any (overRange base) (entriesIn (partsFrom (now parts) at)) ≡ false ⌝ }
     requires { ⌜ Good (now state) ⌝ }
@@ -56,7 +65,7 @@ fn enter_part(parts: &[u64], at: usize, base: usize, state: &mut [u64]) -> u64
 
 // 13 where an entry is a second one of its name, 14 where the table has no room for the entries, 0 where all are entered.
 pub fn enter(parts: &[u64], base: usize, state: &mut [u64]) -> u64
-    requires { ⌜ base ≤ 4096 ⌝ }
+    requires { ⌜ base ≤ programWords ⌝ }
     requires { ⌜ any (overRange base) (entriesIn (partsOf (now parts))) ≡ false ⌝ }
     requires { ⌜ Good (now state) ⌝ }
     ensures { λ r. ⌜ Entered base (entriesIn (partsOf (now (parts .entry)))) (decode (now (state .entry))) r (now (state .exit)) ⌝ }
@@ -76,17 +85,17 @@ pub fn enter(parts: &[u64], base: usize, state: &mut [u64]) -> u64
 // Whether the table had room for the externals, and then the position of each in the table.
 pub struct Mentions {
     pub room: bool,
-    pub at: [u16; 64],
+    pub at: [u16; EXTERNAL_ROOM],
 }
 
 // The guesses are those of the table as it is before.
-pub fn mention_all(parts: &[u64], guesses: [u16; 512], state: &mut [u64]) -> Mentions
-    requires { ⌜ length (externalsIn (partsOf (now parts))) ≤ 64 ⌝ }
+pub fn mention_all(parts: &[u64], guesses: [u16; GUESSES], state: &mut [u64]) -> Mentions
+    requires { ⌜ length (externalsIn (partsOf (now parts))) ≤ mostExternals ⌝ }
     requires { ⌜ Good (now state) ⌝ }
     ensures { λ r. ⌜ Mentioned (externalsIn (partsOf (now (parts .entry)))) (decode (now (state .entry))) r (now (state .exit)) ⌝ }
 {
     let n = parts.len();
-    let mut at = [0u16; 64];
+    let mut at = [0u16; EXTERNAL_ROOM];
     let mut count = 0;
     let mut i = 0;
     while 1 < n - i {
@@ -94,7 +103,7 @@ pub fn mention_all(parts: &[u64], guesses: [u16; 512], state: &mut [u64]) -> Men
         let name = parts[i + 1];
         i += 2;
         if is_external(head) {
-            let guess = guesses[(name % 509) as usize] as usize;
+            let guess = guesses[(name % REMAINDERS) as usize] as usize;
             let position = mention_at(state, name, guess);
             if position == MOST_SYMBOLS {
                 return Mentions { room: false, at };

@@ -8,6 +8,7 @@ use tables::heads::is_reference;
 use tables::heads::is_relocated;
 ghost use Prim.Native.Nat.{_≤_, max};
 ghost use mathlib.Core.Path.{_≡_};
+ghost use Rattle.rules.specs.Limits.{programWords};
 ghost use Rattle.rules.specs.Text.{any};
 ghost use Rattle.rules.specs.Placing.{entriesIn, codeIn};
 ghost use Rattle.tables.specs.Tables.{partsOf};
@@ -77,7 +78,7 @@ pub fn bad_arguments(parts: &[u64], externals: usize) -> bool
 
 // Is it a relocated entry over 65,535?
 fn is_over(head: u64, base: usize) -> bool
-    requires { ⌜ base ≤ 4096 ⌝ }
+    requires { ⌜ base ≤ programWords ⌝ }
     ensures { λ r. ⌜ r ≡ isOver base head ⌝ }
 {
     if is_relocated(head) {
@@ -88,7 +89,7 @@ fn is_over(head: u64, base: usize) -> bool
 
 // Does a relocated entry go over 65,535?
 pub fn out_of_range(parts: &[u64], base: usize) -> bool
-    requires { ⌜ base ≤ 4096 ⌝ }
+    requires { ⌜ base ≤ programWords ⌝ }
     ensures { λ r. ⌜ r ≡ any (overRange base) (entriesIn (partsOf (now (parts .entry)))) ⌝ }
 {
     let n = parts.len();

@@ -1,10 +1,11 @@
--- The numbers that a load's answer can have: reading stops with 6, 7 or 8, placing with 9 to 14.
+-- The numbers of the answers: 0 to 16, each with one name; of a load, reading stops with 6, 7 or 8, placing with 9 to 14.
 use Prim.Native.Nat.{ℕ, _+_, _≤_}
 use native.Mathlib.Omega.{arith}
 use mathlib.Core.Bool.{Bool, true, false, cond, not, _&&_, _||_, true≢false, false≢true}
 use mathlib.Core.List.{List, [], _∷_, map}
 use mathlib.Core.Path.{_≡_, refl, sym, ap, _∙_}
 use lib.Dec.{eqb, ltb, leb}
+use Rattle.rules.specs.Answers.{Answer, answers}
 use Rattle.rules.specs.Text.{between, linesOf}
 use Rattle.rules.specs.Line.{lineAnswer}
 use Rattle.rules.specs.Reading.{titleStep, libraryStep, libraryEndStep, headerStep, closingStep, entryStep, externalStep, parameterStep, subStep, stepOf, stepAt, isHeader, atEnd, readingOf, atStart, insideModule, titleHeader, enterSection, leaveSection, expectRecords, expect, recordDone, countEntry, countExternal, leaveModule, Module}
@@ -22,6 +23,14 @@ use Rattle.rules.specs.declared.reading.Reading.{Reading}
 use Rattle.rules.specs.declared.reading.Reading.the-variants.{Complete, Stopped}
 use Rattle.rules.proofs.TestLaws.{cond-keeps}
 use Rattle.rules.proofs.FoldLaws.{onStep, readFrom, reading-lines}
+
+-- ---- the table
+
+-- "What the calls return" numbers its rows from 0 to 16, in order
+pub answers-numbered : map (λ a. a .number) answers
+    ≡ 0 ∷ 1 ∷ 2 ∷ 3 ∷ 4 ∷ 5 ∷ 6 ∷ 7 ∷ 8 ∷ 9 ∷ 10 ∷ 11 ∷ 12 ∷ 13 ∷ 14 ∷ 15 ∷ 16 ∷ []
+unfolding answers
+answers-numbered = refl
 
 -- ---- reading
 

@@ -1,4 +1,4 @@
--- Tests and choices, over plain Booleans, and the places of a list.
+-- Tests and choices, over plain Booleans, and the indices of a list.
 use Prim.Native.Nat.{ℕ, zero, suc, _<_}
 use native.Mathlib.Omega.{arith}
 use mathlib.Core.Bool.{Bool, true, false, cond, _&&_, _||_, or-true, or-assoc}

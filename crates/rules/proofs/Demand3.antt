@@ -21,7 +21,7 @@ use Rattle.rules.proofs.BoolLaws.{never, or-on, or-off, or-left-comm, a
 use Rattle.rules.proofs.SearchLaws.{search-keeps, search-settled}
 use Rattle.rules.proofs.TableLaws.{not-both, defined-joined, undefined-joined, different-joined}
 use Rattle.rules.proofs.WalkLaws.{place-accepted, place-placed, section-accepted, items-accepted, items-append, items-different, load-accepted}
-use Rattle.rules.proofs.SectionLaws.{as-in, some-at, some-here, some-in, some-nowhere, some-larger, some-with, alone}
+use Rattle.rules.proofs.SectionLaws.{as-in, some-at, some-here, some-in, some-none, some-larger, some-with, alone}
 
 -- ---- what every taking keeps: the table now, from the table before the section and the modules taken
 
@@ -37,9 +37,9 @@ module _ (table : List Symbol) (ms : List Module) where
   holds-start h =
       record {
         different = h;
-        defined = λ x. rw (some-nowhere (isEntry x) ms) (sym (or-false (isDefined x table)));
+        defined = λ x. rw (some-none (isEntry x) ms) (sym (or-false (isDefined x table)));
         undefined = λ x.
-            rw (some-nowhere (isExternal x) ms, or-false)
+            rw (some-none (isExternal x) ms, or-false)
             (go (isUndefined x table) (isDefined x table) (not-both x table h));
         contained = λ set _ i _ e. never e refl;
       }
@@ -48,7 +48,7 @@ module _ (table : List Symbol) (ms : List Module) where
       go true d q = rw (q refl)
       go false d q = refl
 
-  -- a module m at place i, taken when the table is now
+  -- a module m at index i, taken when the table is now
   module _ (i : ℕ) (m : Module) (stands : getElem? ms i ≡ some m) (t : ModuleSet) (now : List Symbol)
       (h : Holds table ms t now) where
     step-defined : (base x : ℕ) → isDefined x (joined base m now) ≡ (isDefined x table || entryOf x (withModule i t) ms)
@@ -85,7 +85,7 @@ module _ (table : List Symbol) (ms : List Module) where
         let answered = enough x open-there in
         let found = unless (entryOf x set ms) (isDefined x table) (entryOf x allModules ms) answered (new .0) known in
         let one = some-in (isEntry x) ms set found in
-        rw (alone x ms once i (one .place) m (one .one) stands (one .stands) entry (one .passes)) (one .belongs)
+        rw (alone x ms once i (one .index) m (one .one) stands (one .stands) entry (one .passes)) (one .belongs)
       where
         or-more : (a b c : Bool) → (b ≡ true → c ≡ true) → (a || b) ≡ true → (a || c) ≡ true
         or-more true b c f e = refl
@@ -97,10 +97,10 @@ module _ (table : List Symbol) (ms : List Module) where
         unless false false true e p q = e
         unless false false false e p q = q
 
-    wanted-in : twice (sectionNames ms) ≡ false → any (λ x. isUndefined x now) (entryNames m) ≡ true →
+    needed-in : twice (sectionNames ms) ≡ false → any (λ x. isUndefined x now) (entryNames m) ≡ true →
         (set : ModuleSet) → Sufficient table ms set → set i ≡ true
     unfolding isEntry
-    wanted-in once wish =
+    needed-in once wish =
         let w = any-in (λ x. isUndefined x now) (entryNames m) wish in
         let x = w .1 in
         undefined-in once x (any-at (eqb x) (entryNames m) (w .0) x (w .2) (eqb-same x)) (w .3)
@@ -115,7 +115,7 @@ module _ (table : List Symbol) (ms : List Module) where
           undefined = step-undefined base;
           contained = λ set enough j l e.
               ⊎-elim
-              (λ q. rw (← eqb-true i j q) (wanted-in once wish set enough))
+              (λ q. rw (← eqb-true i j q) (needed-in once wish set enough))
               (h .contained set enough j l)
               (or-on (eqb i j) (t j) e);
         }
@@ -133,15 +133,15 @@ unless-not false true c f = refl
 unless-not false false true f = f refl refl refl
 unless-not false false false f = refl
 
-undefined-wants : (v : Walk) (m : Module) (x : ℕ) → accepted v ≡ true → isUndefined x (v .state .symbols) ≡ true →
+undefined-calls : (v : Walk) (m : Module) (x : ℕ) → accepted v ≡ true → isUndefined x (v .state .symbols) ≡ true →
     isEntry x m ≡ true → takes v m ≡ true
 unfolding takes isNeeded isEntry
-undefined-wants v m x a u e =
+undefined-calls v m x a u e =
     let w = any-in (eqb x) (entryNames m) e in
     let here = rw (eqb-true x (w .1) (w .3)) at u in
     rw a (any-at (λ y. isUndefined y (v .state .symbols)) (entryNames m) (w .0) (w .1) (w .2) here)
 
--- of two sets, one within the other and not the same, the larger has a place more
+-- of two sets, one within the other and not the same, the larger has a module more
 abbrev SameOn : ModuleSet → ModuleSet → ℕ → Type 0
 SameOn a b n = (i : ℕ) → i < n → a i ≡ b i
 
@@ -196,9 +196,9 @@ module _ (ms : List Module) (w : Walk) (once : twice (sectionNames ms) ≡ false
       let one = some-in (isEntry x) ms allModules e in
       some-at (isEntry x) ms (f .taken)
       (as-in (isEntry x) ms (f .taken) one
-      (or-not (f .taken (one .place)) (takes (f .now) (one .one))
-      (search-settled takes place ms w (one .place) (one .one) (one .stands))
-      (undefined-wants (f .now) (one .one) x well u (one .passes))))
+      (or-not (f .taken (one .index)) (takes (f .now) (one .one))
+      (search-settled takes place ms w (one .index) (one .one) (one .stands))
+      (undefined-calls (f .now) (one .one) x well u (one .passes))))
 
   -- "The modules taken there are a sufficient set"
   section-sufficient : Sufficient (w .state .symbols) ms (searched ms w .taken)

@@ -56,8 +56,8 @@ stays (x ∷ ls) n m ps ms is k l c = stays ls n m ps ms is k l c
 module _
     (ls : List (List ℕ)) (n : ℕ) (m : Mode) (ps : List Part) (ms : List Module) (is : List Item)
     (rest :
-        (m′ : Mode) (ps′ : List Part) (ms′ : List Module) (is′ : List Item)
-        → ended (readLines (readSoFar (n + 1) m′ ps′ ms′ is′ Complete) ls) ≡ readFrom (n + 1) m′ ls) where
+    (m′ : Mode) (ps′ : List Part) (ms′ : List Module) (is′ : List Item)
+    → ended (readLines (readSoFar (n + 1) m′ ps′ ms′ is′ Complete) ls) ≡ readFrom (n + 1) m′ ls) where
   member-reading :
       (t : Bool) (m′ : Mode) (md : Module)
       → ended (readLines (moduleDone (readSoFar n m ps ms is Complete) t m′ md) ls) ≡ readFrom (n + 1) m′ ls
@@ -85,8 +85,8 @@ fold-reading (l ∷ ls) n m ps ms is = step-reading ls n m ps ms is (fold-readin
 module _
     (ls : List (List ℕ)) (n : ℕ) (m : Mode) (ps : List Part) (ms : List Module) (is : List Item)
     (rest :
-        (m′ : Mode) (ps′ : List Part) (ms′ : List Module) (is′ : List Item)
-        → readLines (readSoFar (n + 1) m′ ps′ ms′ is′ Complete) ls .items ≡ is′ ++ itemsFrom (n + 1) m′ ps′ ms′ ls) where
+    (m′ : Mode) (ps′ : List Part) (ms′ : List Module) (is′ : List Item)
+    → readLines (readSoFar (n + 1) m′ ps′ ms′ is′ Complete) ls .items ≡ is′ ++ itemsFrom (n + 1) m′ ps′ ms′ ls) where
   abbrev more : Mode → List Part → List Module → List Item
   more m′ ps′ ms′ = itemsFrom (n + 1) m′ ps′ ms′ ls
 

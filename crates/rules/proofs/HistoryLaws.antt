@@ -28,7 +28,7 @@ use Rattle.rules.proofs.WalkLaws.{place-accepted, place-placed, items-a
 
 -- ---- the modules of a set
 
--- a place ahead of the list changes nothing
+-- an index ahead of the list changes nothing
 chosen-ahead : (t : ModuleSet) (i k : ℕ) (ms : List Module) → i < k → chosen (withModule i t) k ms ≡ chosen t k ms
 unfolding chosen withModule
 chosen-ahead t i k [] h = refl
@@ -55,10 +55,10 @@ chosen-with t i k (suc j) (x ∷ ms) m e g u =
     go true r = omega arith
     go false r = r
 
-chosen-nowhere : (k : ℕ) (ms : List Module) → codeCounts (chosen noModules k ms) ≡ 0
+chosen-none : (k : ℕ) (ms : List Module) → codeCounts (chosen noModules k ms) ≡ 0
 unfolding chosen noModules codeCounts
-chosen-nowhere k [] = refl
-chosen-nowhere k (m ∷ ms) = chosen-nowhere (k + 1) ms
+chosen-none k [] = refl
+chosen-none k (m ∷ ms) = chosen-none (k + 1) ms
 
 counts-append : (a b : List Module) → codeCounts (a ++ b) ≡ codeCounts a + codeCounts b
 unfolding codeCounts
@@ -113,7 +113,7 @@ grown-item p (section line ms) g size h =
     (chosen-with t i 0 i ms m (omega arith) e out)
     (grown-module (codeCounts (chosen t 0 ms)) (p .walk .state) w m (every-found ModuleSound ms i (g .0) e) (ih (place-accepted w m k)) k))
     (λ _.
-    rw (test-state line ms (p .walk), chosen-nowhere 0 ms) (record { size = size; count = omega arith }))
+    rw (test-state line ms (p .walk), chosen-none 0 ms) (record { size = size; count = omega arith }))
     h
 
 pub grown-items : (is : List Item) (p : Progress)

@@ -49,7 +49,7 @@ ItemSound (section n ms) = Every ModuleSound ms × (length ms ≤ 256)
 -- the modules of the open section so far, and k more that is being read
 pub record Room (ms : List Module) (k count : ℕ) : Type 0 where
   pub sound : Every ModuleSound ms
-  pub place : length ms + k ≤ count
+  pub fits : length ms + k ≤ count
   pub limit : count ≤ 256
 
 pub data InSection : ℕ → OpenSection → List Module → Type 0 where
@@ -153,7 +153,7 @@ rest-title n (inside {line} {count} {ms} r) = go (leb 256 count) refl
     go true e = tt
     go false e =
         let free = leb-false 256 count e in
-        let next : Room ms 1 (count + 1) = record { sound = r .sound; place = omega arith; limit = omega arith } in
+        let next : Room ms 1 (count + 1) = record { sound = r .sound; fits = omega arith; limit = omega arith } in
         beforeTitle (inside next)
 
 rest-library :
@@ -161,7 +161,7 @@ rest-library :
     → After [] ms (libraryStep n (restIn s))
 unfolding libraryStep enterSection
 rest-library n outside =
-    let next : Room [] 0 0 = record { sound = tt; place = omega arith; limit = omega arith } in
+    let next : Room [] 0 0 = record { sound = tt; fits = omega arith; limit = omega arith } in
     atRest (inside next)
 rest-library n (inside r) = tt
 
@@ -228,7 +228,7 @@ complete (inside {count} {ms} r) md g =
     let next : Room (ms ++ (md ∷ [])) 0 count =
     record {
       sound = every-add ModuleSound ms md (r .sound) g;
-      place = simp length-append (omega arith);
+      fits = simp length-append (omega arith);
       limit = r .limit;
     } in
     atRest (inside next)

@@ -14,7 +14,7 @@ use borrow.Author.Tests.{eqb-true, eqb-false, ne-eqb, not-false}
 use Rattle.rules.specs.Search.{ModuleSet, noModules, withModule, Sweep, Found, sweepOf, visit, sweep, round, rounds, search}
 use Rattle.rules.proofs.BoolLaws.{cond-cases, never-none, or-off, inside}
 
--- ---- sets of places
+-- ---- sets of modules
 
 -- how many of the first n places are in a set
 unfoldable pub count : ModuleSet → ℕ → ℕ
@@ -28,12 +28,12 @@ count-most t (suc n) =
     let ih = count-most t n in
     cond-cases (λ k. k + count t n ≤ suc n) (t n) 1 0 (λ _. omega arith) (λ _. omega arith)
 
-pub count-nowhere : (n : ℕ) → count noModules n ≡ 0
+pub count-none : (n : ℕ) → count noModules n ≡ 0
 unfolding count noModules
-count-nowhere zero = refl
-count-nowhere (suc n) = omega (arith, count-nowhere n)
+count-none zero = refl
+count-none (suc n) = omega (arith, count-none n)
 
--- a place more, beyond the first n and among them
+-- a module more, beyond the first n and among them
 pub count-beyond : (i : ℕ) (t : ModuleSet) (n : ℕ) → n ≤ i → count (withModule i t) n ≡ count t n
 unfolding count withModule
 count-beyond i t zero h = refl
@@ -62,7 +62,7 @@ module _ {M X : Type 0} (takes : X → M → Bool) (place : X → M → X) where
   abbrev pub taking : ℕ → M → Sweep X → Sweep X
   taking i m r = sweepOf (withModule i (r .taken)) (r .took + 1) (place (r .now) m)
 
-  -- taking module m at place i keeps P, where m is not taken and is needed
+  -- taking module m at index i keeps P, where m is not taken and is needed
   abbrev pub Keeps : (Sweep X → Type 0) → ℕ → M → Type 0
   Keeps P i m = (r : Sweep X) → r .taken i ≡ false → takes (r .now) m ≡ true → P r → P (taking i m r)
 
@@ -74,7 +74,7 @@ module _ {M X : Type 0} (takes : X → M → Bool) (place : X → M → X) where
       let h = or-off (r .taken i) (not (takes (r .now) m)) e in
       step r (h .0) (not-false (takes (r .now) m) (h .1)) p
 
-  -- the modules from place i on: the one at place j is the one at k of the list, where j is i plus k
+  -- the modules from index i on: the one at index j is the one at k of the list, where j is i plus k
   pub sweep-keeps : (P : Sweep X → Type 0) (i : ℕ) (ms : List M) →
       ((j k : ℕ) (m : M) → j ≡ i + k → getElem? ms k ≡ some m → Keeps P j m) →
       (r : Sweep X) → P r → P (sweep takes place i ms r)
@@ -149,7 +149,7 @@ module _ {M X : Type 0} (takes : X → M → Bool) (place : X → M → X) where
   unfolding visit
   visit-takes i m r e = rw e
 
-  -- the modules from place i on, all of them settled
+  -- the modules from index i on, all of them settled
   abbrev pub AllSettled : ℕ → List M → ModuleSet → X → Type 0
   AllSettled i ms t x = (k : ℕ) (m : M) → getElem? ms k ≡ some m → settled t x (i + k) m ≡ true
 

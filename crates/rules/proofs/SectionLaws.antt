@@ -20,18 +20,18 @@ use Rattle.rules.proofs.BoolLaws.{never, never-none, or-on, or-off, and
 
 -- ---- some module of a set
 
--- a module of a set, its place in the list and its place in the section, that passes a test
+-- a module of a set, its index in the list and its index in the section, that passes a test
 pub record Member (p : Module → Bool) (set : ModuleSet) (ms : List Module) : Type 0 where
-  pub place : ℕ
+  pub index : ℕ
   pub one : Module
-  pub stands : getElem? ms place ≡ some one
-  pub belongs : set place ≡ true
+  pub stands : getElem? ms index ≡ some one
+  pub belongs : set index ≡ true
   pub passes : p one ≡ true
 
 some-at-from : (p : Module → Bool) (set : ModuleSet) (j : ℕ) (ms : List Module) → Member p (λ k. set (j + k)) ms →
     someFrom p set j ms ≡ true
 unfolding someFrom
-some-at-from p set j ms w = go j ms (w .place) (w .stands) (w .belongs)
+some-at-from p set j ms w = go j ms (w .index) (w .stands) (w .belongs)
   where
     go : (j : ℕ) (ms : List Module) (k : ℕ) → getElem? ms k ≡ some (w .one) → set (j + k) ≡ true →
         someFrom p set j ms ≡ true
@@ -51,42 +51,42 @@ some-in-from p set j (n ∷ ms) h =
     ⊎-elim
     (λ e.
     let q = and-on (set j) (p n) e in
-    record { place = 0; one = n; stands = refl; belongs = rw add-zero (q .0); passes = q .1 })
+    record { index = 0; one = n; stands = refl; belongs = rw add-zero (q .0); passes = q .1 })
     (λ e.
     let w = some-in-from p set (j + 1) ms e in
-    let q : j + suc (w .place) ≡ j + 1 + w .place = omega arith in
-    let k = w .place in
-    record { place = suc k; one = w .one; stands = w .stands; belongs = rw q (w .belongs); passes = w .passes })
+    let q : j + suc (w .index) ≡ j + 1 + w .index = omega arith in
+    let k = w .index in
+    record { index = suc k; one = w .one; stands = w .stands; belongs = rw q (w .belongs); passes = w .passes })
     (or-on (set j && p n) (someFrom p set (j + 1) ms) h)
 
 module _ (p : Module → Bool) (ms : List Module) where
   -- the same module, as one of another set
-  pub as-in : (big : ModuleSet) {set : ModuleSet} → (w : Member p set ms) → big (w .place) ≡ true → Member p big ms
-  as-in big w h = record { place = w .place; one = w .one; stands = w .stands; belongs = h; passes = w .passes }
+  pub as-in : (big : ModuleSet) {set : ModuleSet} → (w : Member p set ms) → big (w .index) ≡ true → Member p big ms
+  as-in big w h = record { index = w .index; one = w .one; stands = w .stands; belongs = h; passes = w .passes }
 
   pub some-at : (set : ModuleSet) → Member p set ms → someFrom p set 0 ms ≡ true
   some-at set w = some-at-from p set 0 ms (as-in (λ k. set (0 + k)) w (rw zero-add (w .belongs)))
 
   pub some-here : (set : ModuleSet) (i : ℕ) (m : Module) → getElem? ms i ≡ some m → set i ≡ true → p m ≡ true →
       someFrom p set 0 ms ≡ true
-  some-here set i m e b h = some-at set (record { place = i; one = m; stands = e; belongs = b; passes = h })
+  some-here set i m e b h = some-at set (record { index = i; one = m; stands = e; belongs = b; passes = h })
 
   pub some-in : (set : ModuleSet) → someFrom p set 0 ms ≡ true → Member p set ms
-  some-in set h = let w = some-in-from p set 0 ms h in as-in set w (rw (zero-add (w .place)) at (w .belongs))
+  some-in set h = let w = some-in-from p set 0 ms h in as-in set w (rw (zero-add (w .index)) at (w .belongs))
 
   -- none of the empty set, and of a larger set no fewer
-  pub some-nowhere : someFrom p noModules 0 ms ≡ false
+  pub some-none : someFrom p noModules 0 ms ≡ false
   unfolding noModules
-  some-nowhere = both-ways (someFrom p noModules 0 ms) false (λ h. some-in noModules h .belongs) (λ h. never h refl)
+  some-none = both-ways (someFrom p noModules 0 ms) false (λ h. some-in noModules h .belongs) (λ h. never h refl)
 
   pub some-larger : (big small : ModuleSet) → Contains ms big small → someFrom p small 0 ms ≡ true →
       someFrom p big 0 ms ≡ true
   unfolding Contains
   some-larger big small c h =
       let w = some-in small h in
-      some-at big (as-in big w (c (w .place) (inside ms (w .place) (w .stands)) (w .belongs)))
+      some-at big (as-in big w (c (w .index) (inside ms (w .index) (w .stands)) (w .belongs)))
 
-  -- with one place more
+  -- with one module more
   pub some-with : (i : ℕ) (m : Module) (t : ModuleSet) → getElem? ms i ≡ some m →
       someFrom p (withModule i t) 0 ms ≡ (p m || someFrom p t 0 ms)
   unfolding withModule
@@ -97,11 +97,11 @@ module _ (p : Module → Bool) (ms : List Module) where
           let w = some-in (withModule i t) h in
           ⊎-elim
           (λ q.
-          let here : getElem? ms i ≡ some (w .one) = ap (getElem? ms) (eqb-true i (w .place) q) ∙ w .stands in
+          let here : getElem? ms i ≡ some (w .one) = ap (getElem? ms) (eqb-true i (w .index) q) ∙ w .stands in
           let same : m ≡ w .one = cc in
           rw (same, w .passes))
           (λ q. rw (some-at t (as-in t w q)) (or-true (p m)))
-          (or-on (eqb i (w .place)) (t (w .place)) (w .belongs))
+          (or-on (eqb i (w .index)) (t (w .index)) (w .belongs))
 
       more : (p m || someFrom p t 0 ms) ≡ true → someFrom p (withModule i t) 0 ms ≡ true
       more h =
@@ -109,7 +109,7 @@ module _ (p : Module → Bool) (ms : List Module) where
           (λ q. some-here (withModule i t) i m e (rw (eqb-same i)) q)
           (λ q.
           let w = some-in t q in
-          some-at (withModule i t) (as-in (withModule i t) w (rw (w .belongs) (or-true (eqb i (w .place))))))
+          some-at (withModule i t) (as-in (withModule i t) w (rw (w .belongs) (or-true (eqb i (w .index))))))
           (or-on (p m) (someFrom p t 0 ms) h)
 
 -- ---- a name that stands once

@@ -199,10 +199,10 @@ soundWord-more n k l (refers x i) h =
     and-intro (and-left (ltb x (2 ^ 64)) (ltb i n) h) (lt-ltb i k (omega arith))
 
 -- a symbol of the table stands below its length
-pub place-below : (x : ℕ) (t : List Symbol) → isSymbol x t ≡ true → positionOf x t < length t
+pub position-below : (x : ℕ) (t : List Symbol) → isSymbol x t ≡ true → positionOf x t < length t
 unfolding isSymbol any positionOf
-place-below x [] h = absurd (false≢true h)
-place-below x (s ∷ t) h = go (nameIs x s) h (place-below x t)
+position-below x [] h = absurd (false≢true h)
+position-below x (s ∷ t) h = go (nameIs x s) h (position-below x t)
   where
     go : (b : Bool) → (b || any (nameIs x) t) ≡ true → (any (nameIs x) t ≡ true → positionOf x t < length t) → cond b 0 (positionOf x t + 1) < suc (length t)
     go true h ih = suc-le-suc zero-le
@@ -220,7 +220,7 @@ linked-sound xs t text (External k) l h b =
     let inside : k - 1 < length xs = omega (arith, some-number) in
     and-intro
     (lt-ltb text (2 ^ 64) l)
-    (lt-ltb _ _ (place-below (externalName xs k) t (all-at (λ x. isSymbol x t) xs (k - 1) 0 h inside)))
+    (lt-ltb _ _ (position-below (externalName xs k) t (all-at (λ x. isSymbol x t) xs (k - 1) 0 h inside)))
 
 put-sound : (n base : ℕ) (xs : List ℕ) (t : List Symbol) (cs : List Code) (ws : List Word)
     → all (λ c. soundWord n (linked xs t (c .word .text) (c .word .relocation))) cs ≡ true

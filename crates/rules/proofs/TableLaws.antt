@@ -296,7 +296,7 @@ pub value-relocated : (base : ℕ) (e : Entry) → e .relocated ≡ true → val
 unfolding valueAt
 value-relocated base e h = rw h
 
--- the symbol at a name's place, or d where it has none
+-- the symbol at a name's position, or d where it has none
 unfoldable pub symbolOf : ℕ → List Symbol → Symbol → Symbol
 symbolOf y t d = getD t (positionOf y t) d
 

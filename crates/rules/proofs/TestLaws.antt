@@ -48,7 +48,7 @@ between-high low high n h = leb-true n high (and-right (leb low n) (leb n high) 
 pub between-wider : (a b c d n : ℕ) → c ≤ a → b ≤ d → between a b n ≡ true → between c d n ≡ true
 between-wider a b c d n l h e = between-intro c d n (omega (arith, between-low a b n e)) (omega (arith, between-high a b n e))
 
--- a test of every element: of the first and of the rest, weakened, of two lists, and at a place
+-- a test of every element: of the first and of the rest, weakened, of two lists, and at an index
 module _ {ℓ} {A : Type ℓ} where
   module _ (p : A → Bool) (x : A) (xs : List A) where
     pub all-cons : p x ≡ true → all p xs ≡ true → all p (x ∷ xs) ≡ true
@@ -109,7 +109,7 @@ unfolding all
 every-all P p f [] h = refl
 every-all P p f (x ∷ xs) h = and-intro (f x (h .0)) (every-all P p f xs (h .1))
 
--- at a place
+-- at an index
 pub every-found : {A : Type 0} (P : A → Type 0) (xs : List A) (i : ℕ) {x : A} → Every P xs → getElem? xs i ≡ some x → P x
 every-found P [] i h e = absurd (let z : _≡_ {A = ℕ} 0 1 = cc in omega arith)
 every-found P (y ∷ xs) zero {x} h e = let same : y ≡ x = cc in subst P same (h .0)

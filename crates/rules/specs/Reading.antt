@@ -158,7 +158,7 @@ unfoldable pub externalStep : Mode → ℕ → Step
 externalStep m x =
     cond (ltb (m .object .externals) mostExternals) (Add (recordDone ExternalRecord (countExternal m)) (ExternalPart x)) listFull
 
--- a code word's place in its block is the number of records before it
+-- a code word's index in its block is the number of records before it
 abbrev pub wordPart : Mode → CodeWord → Part
 wordPart m w = WordPart (m .block .offset + (m .block .count - m .block .remaining)) w
 

@@ -16,8 +16,12 @@ pub const MOST_ENTRIES: u16 = 64;
 
 pub const MOST_EXTERNALS: u16 = 64;
 
+pub const EXTERNAL_ROOM: usize = MOST_EXTERNALS as usize;
+
 // Of a library section.
 pub const MOST_MODULES: u16 = 256;
+
+pub const MODULE_ROOM: usize = MOST_MODULES as usize;
 
 // Of a number in a file: its octal digits, and its value.
 pub const MOST_DIGITS: usize = 6;

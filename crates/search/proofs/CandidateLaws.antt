@@ -76,7 +76,7 @@ module _ {parts index : List ℕ} {name k : ℕ} (f : Found parts index name k) 
           let one : getD (set candidates o 1) o 0 ≡ 1 = getD-set-same candidates o 1 0 (omega (arith, h, l)) in
           omega (arith, sym one ∙ ap (λ j. getD (set candidates o 1) j 0) (sym s) ∙ e)
 
--- ---- marked for the undefined symbols from a place on
+-- ---- marked for the undefined symbols from an index on
 
 module _ (parts index : List ℕ) (t : List Symbol) (before : List ℕ) where
   abbrev pub MarkedFrom : ℕ → List ℕ → Type 0
@@ -91,7 +91,7 @@ module _ (parts index : List ℕ) (t : List Symbol) (before : List ℕ) where
         told = λ y e. never e (ap (λ k. isUndefined y (drop k t)) q ∙ ap (isUndefined y) (drop-length t));
       }
 
-  -- one place less: k goes to j
+  -- one index less: k goes to j
   module _ (k : ℕ) (l : k ≤ length t) {from : ℕ} (b : from < k) {candidates : List ℕ} (v : MarkedFrom k candidates) where
     abbrev j : ℕ
     j = k - 1

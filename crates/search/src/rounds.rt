@@ -3,6 +3,7 @@ use crate::candidates::mark_undefined;
 use crate::visits::visit_module;
 use rules::answer::DONE;
 use rules::answer::Refusal;
+use rules::limits::MODULE_ROOM;
 use tables::rows::Section;
 ghost use mathlib.Core.Path.{_≡_};
 ghost use lib.ListN.{length};
@@ -15,7 +16,7 @@ ghost use Rattle.search.specs.Flags.{Candidates};
 
 // After a round: the flags of the modules taken, how many this round took, and the refusal.
 pub struct Round {
-    pub flags: [bool; 256],
+    pub flags: [bool; MODULE_ROOM],
     pub took: usize,
     pub refusal: Refusal,
 }
@@ -25,7 +26,7 @@ fn one_round(
     parts: &[u64],
     rows: &[u64],
     section: Section,
-    flags: [bool; 256],
+    flags: [bool; MODULE_ROOM],
     refusal: Refusal,
     index: &[u64],
     candidates: &mut [u8],
@@ -45,7 +46,17 @@ fn one_round(
         let k = i;
         i += 1;
         if candidates[k] != 0 {
-            let v = visit_module(parts, rows, section, k, marks[k], told, index, candidates, state);
+            let v = visit_module(
+                parts,
+                rows,
+                section,
+                k,
+                marks[k],
+                told,
+                index,
+                candidates,
+                state,
+            );
             let after = v.refusal;
             marks[k] = v.flag;
             took += v.took;
@@ -100,14 +111,23 @@ pub fn search(
     requires { ⌜ Good (now state) ⌝ }
     ensures { λ r. ⌜ Sought (modulesIn (now (parts .entry)) (now (rows .entry)) (section .first) (section .count)) refusal (now (state .entry)) r (now (state .exit)) ⌝ }
 {
-    let mut candidates = [0u8; 256];
+    let mut candidates = [0u8; MODULE_ROOM];
     first_candidates(parts, rows, section, refusal, index, state, &mut candidates);
-    let mut flags = [false; 256];
+    let mut flags = [false; MODULE_ROOM];
     let mut took = 1;
     let mut told = refusal;
     let mut rounds = 0;
     while 0 < took {
-        let r = one_round(parts, rows, section, flags, told, index, &mut candidates, state);
+        let r = one_round(
+            parts,
+            rows,
+            section,
+            flags,
+            told,
+            index,
+            &mut candidates,
+            state,
+        );
         let marks = r.flags;
         let after = r.refusal;
         flags = marks;

@@ -9,7 +9,7 @@ use tables::rows::Section;
 use tables::rows::module_cells;
 ghost use Prim.Native.Nat.{_+_, _<_};
 ghost use mathlib.Core.Path.{_≡_};
-ghost use Rattle.tables.specs.Tables.{moduleIn};
+ghost use Rattle.tables.specs.Tables.{mostCells, moduleIn};
 ghost use Rattle.state.specs.Good.{Good};
 ghost use Rattle.search.specs.Searching.{SectionSound, shouldTake, Visited};
 ghost use Rattle.search.specs.Flags.{Candidates};
@@ -30,7 +30,7 @@ fn should_take(
     refusal: Refusal,
     state: &[u64],
 ) -> bool
-    requires { ⌜ row < 131072 ⌝ }
+    requires { ⌜ row < mostCells ⌝ }
     requires { ⌜ Good (now state) ⌝ }
     ensures { λ r. ⌜ r ≡ shouldTake flag refusal (now (state .entry)) (moduleIn (now (parts .entry)) (now (rows .entry)) row) ⌝ }
 {

@@ -17,6 +17,7 @@ use state::layout::VALUES;
 ghost use Prim.Native.Nat.{_+_, _<_, _≤_};
 ghost use mathlib.Core.Path.{_≡_};
 ghost use lib.ListN.{length};
+ghost use Rattle.rules.specs.Limits.{programWords, mostSymbols};
 ghost use Rattle.state.specs.Layout.{size};
 ghost use Rattle.soundness.specs.Checks.{headerSound, zeroBetween, valueSound, symbolsSound, unlike, HasMet, Alone, namesDiffer, wordSoundAt, wordsSound};
 
@@ -64,7 +65,7 @@ fn value_sound(v: u64) -> bool
 
 pub fn symbols_sound(state: &[u64], n: usize) -> bool
     requires { ⌜ length (now state) ≡ size ⌝ }
-    requires { ⌜ n ≤ 256 ⌝ }
+    requires { ⌜ n ≤ mostSymbols ⌝ }
     ensures { λ r. ⌜ r ≡ symbolsSound (now (state .entry)) n ⌝ }
 {
     let mut i = 0;
@@ -83,7 +84,7 @@ pub fn symbols_sound(state: &[u64], n: usize) -> bool
 // No name from position i on is x.
 fn unlike_from(state: &[u64], x: u64, i: usize, n: usize) -> bool
     requires { ⌜ length (now state) ≡ size ⌝ }
-    requires { ⌜ n ≤ 256 ⌝ }
+    requires { ⌜ n ≤ mostSymbols ⌝ }
     ensures { λ r. ⌜ r ≡ unlike (now (state .entry)) x i n ⌝ }
 {
     let mut j = i;
@@ -105,7 +106,7 @@ const FILTER: usize = 4096;
 // one. Only where it had met it already the names behind are looked through.
 fn stands_alone(state: &[u64], i: usize, n: usize, met: &mut [u8]) -> bool
     requires { ⌜ length (now state) ≡ size ⌝ }
-    requires { ⌜ (i < n) × (n ≤ 256) ⌝ }
+    requires { ⌜ (i < n) × (n ≤ mostSymbols) ⌝ }
     requires { ⌜ HasMet (now state) n (i + 1) (now met) ⌝ }
     ensures { λ r. ⌜ Alone (now (state .entry)) n i r (now (met .exit)) ⌝ }
 {
@@ -121,7 +122,7 @@ fn stands_alone(state: &[u64], i: usize, n: usize, met: &mut [u8]) -> bool
 // From the last name to the first.
 pub fn names_differ(state: &[u64], n: usize) -> bool
     requires { ⌜ length (now state) ≡ size ⌝ }
-    requires { ⌜ n ≤ 256 ⌝ }
+    requires { ⌜ n ≤ mostSymbols ⌝ }
     ensures { λ r. ⌜ r ≡ namesDiffer (now (state .entry)) n ⌝ }
 {
     let mut met = [0u8; FILTER];
@@ -138,7 +139,7 @@ pub fn names_differ(state: &[u64], n: usize) -> bool
 // The word at an address. Its text is read only where no word is placed.
 fn word_sound(state: &[u64], n: usize, address: usize) -> bool
     requires { ⌜ length (now state) ≡ size ⌝ }
-    requires { ⌜ (n ≤ 256) × (address < 4096) ⌝ }
+    requires { ⌜ (n ≤ mostSymbols) × (address < programWords) ⌝ }
     ensures { λ r. ⌜ r ≡ wordSoundAt (now (state .entry)) n address ⌝ }
 {
     let tag = state[TAGS + address];
@@ -150,7 +151,7 @@ fn word_sound(state: &[u64], n: usize, address: usize) -> bool
 
 pub fn words_sound(state: &[u64], n: usize) -> bool
     requires { ⌜ length (now state) ≡ size ⌝ }
-    requires { ⌜ n ≤ 256 ⌝ }
+    requires { ⌜ n ≤ mostSymbols ⌝ }
     ensures { λ r. ⌜ r ≡ wordsSound (now (state .entry)) n ⌝ }
 {
     let mut a = 0;

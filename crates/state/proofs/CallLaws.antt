@@ -18,7 +18,7 @@ use Rattle.rules.specs.declared.answer.UndefinedAnswer.{UndefinedAnswer}
 use Rattle.state.specs.Good.{Tidy}
 use Rattle.state.specs.Table.{noSymbol, undefinedPosition}
 use Rattle.state.proofs.BoolLaws.{first, second, not-first, not-second}
-use Rattle.state.proofs.JoinLaws.{place-most, mention-known, mention-length}
+use Rattle.state.proofs.JoinLaws.{position-most, mention-known, mention-length}
 
 -- ---- the k-th undefined symbol
 
@@ -137,4 +137,4 @@ force-joins {A} x t there full joined few same =
         let off = ltb-false (positionOf x t) (length t) p in
         rw (lt-leb (length (mention x t)) 256 (omega (arith, mention-length x t, leb-true 256 (length t) q)))
     go false false p q =
-        rw (le-leb (length (mention x t)) 256 (omega (arith, mention-length x t, place-most x t, leb-false 256 (length t) q)))
+        rw (le-leb (length (mention x t)) 256 (omega (arith, mention-length x t, position-most x t, leb-false 256 (length t) q)))

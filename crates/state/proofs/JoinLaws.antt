@@ -49,22 +49,22 @@ mention-new x (s ∷ t) h = go (eqb (s .name) x) (mention-new x t) h
     go true e h = absurd (not-suc-le-zero h)
     go false e h = rw (add-one (positionOf x t), e (omega arith))
 
-pub place-most : (x : ℕ) (t : List Symbol) → positionOf x t ≤ length t
+pub position-most : (x : ℕ) (t : List Symbol) → positionOf x t ≤ length t
 unfolding positionOf
-place-most x [] = omega arith
-place-most x (s ∷ t) = go (eqb (s .name) x) (place-most x t)
+position-most x [] = omega arith
+position-most x (s ∷ t) = go (eqb (s .name) x) (position-most x t)
   where
     go : (b : Bool) → positionOf x t ≤ length t → cond b 0 (positionOf x t + 1) ≤ suc (length t)
     go true e = omega arith
     go false e = omega arith
 
 -- where a name stands, there is its position, since no other symbol has it
-pub place-there : (t : List Symbol) (x i : ℕ) → differentNames t ≡ true → i < length t → getD t i noSymbol .name ≡ x → positionOf x t ≡ i
+pub position-there : (t : List Symbol) (x i : ℕ) → differentNames t ≡ true → i < length t → getD t i noSymbol .name ≡ x → positionOf x t ≡ i
 unfolding differentNames positionOf isSymbol any
-place-there [] x i d h e = absurd (not-suc-le-zero h)
-place-there (s ∷ t) x zero d h e = rw (eq-eqb (s .name) x e)
-place-there (s ∷ t) x (suc i) d h e =
-    go (eqb (s .name) x) refl (place-there t x i (second (not (any (nameIs (s .name)) t)) (differentNames t) d) (le-of-suc-le-suc h) e)
+position-there [] x i d h e = absurd (not-suc-le-zero h)
+position-there (s ∷ t) x zero d h e = rw (eq-eqb (s .name) x e)
+position-there (s ∷ t) x (suc i) d h e =
+    go (eqb (s .name) x) refl (position-there t x i (second (not (any (nameIs (s .name)) t)) (differentNames t) d) (le-of-suc-le-suc h) e)
   where
     stands : (r : List Symbol) (k : ℕ) → k < length r → getD r k noSymbol .name ≡ x → any (nameIs x) r ≡ true
     stands [] k l q = absurd (not-suc-le-zero l)
@@ -91,7 +91,7 @@ name-at-place x (s ∷ t) h = go (eqb (s .name) x) refl (name-at-place x t) h
 -- a table only grows
 pub define-length : (x v : ℕ) (t : List Symbol) → length (define x v t) ≡ max (length t) (positionOf x t + 1)
 define-length x v t =
-    ap length (define-put x v t) ∙ length-put (positionOf x t) (symbol x v true) t (place-most x t)
+    ap length (define-put x v t) ∙ length-put (positionOf x t) (symbol x v true) t (position-most x t)
 
 pub mention-length : (x : ℕ) (t : List Symbol) → length (mention x t) ≡ max (length t) (positionOf x t + 1)
 mention-length x t = go (ltb (positionOf x t) (length t)) refl
@@ -102,7 +102,7 @@ mention-length x t = go (ltb (positionOf x t) (length t)) refl
         ap length (mention-known x t h) ∙ omega arith
     go false e =
         ap length (mention-new x t (ltb-false (positionOf x t) (length t) e))
-        ∙ length-put (positionOf x t) (symbol x 0 false) t (place-most x t)
+        ∙ length-put (positionOf x t) (symbol x 0 false) t (position-most x t)
 
 -- ---- a tidy table stays tidy
 
@@ -158,7 +158,7 @@ more-symbols n m h (refers x i) e =
 pub put-tidy : (s : State) → Tidy s → (x v : ℕ) (d : Bool) → soundValue (symbol x v d) ≡ true → positionOf x (s .symbols) < 256 → Tidy (withSymbols (put (positionOf x (s .symbols)) (symbol x v d) (s .symbols)) s)
 put-tidy s y x v d e h =
     let t = s .symbols in
-    let long : length (put (positionOf x t) (symbol x v d) t) ≡ max (length t) (positionOf x t + 1) = length-put (positionOf x t) (symbol x v d) t (place-most x t) in
+    let long : length (put (positionOf x t) (symbol x v d) t) ≡ max (length t) (positionOf x t + 1) = length-put (positionOf x t) (symbol x v d) t (position-most x t) in
     record {
       few = omega (arith, y .few);
       values = all-put x v d soundValue (positionOf x t) t e (y .values);

@@ -42,21 +42,21 @@ module _ (cells : List ℕ) (i : ℕ) where
   undefined-end h = rw (symbols-end h)
 
   module _ (k : ℕ) where
-    pub place-of-first : i < getD cells 0 0 → getD cells (260 + i) 0 ≡ 0 → k ≡ 0 → undefinedPosition k (symbolsFrom cells i) ≡ 0
+    pub position-of-first : i < getD cells 0 0 → getD cells (260 + i) 0 ≡ 0 → k ≡ 0 → undefinedPosition k (symbolsFrom cells i) ≡ 0
     unfolding undefinedPosition
-    place-of-first h e z = rw (symbols-step h, eq-eqb _ _ e, eq-eqb _ _ z)
+    position-of-first h e z = rw (symbols-step h, eq-eqb _ _ e, eq-eqb _ _ z)
 
-    pub place-of-later : i < getD cells 0 0 → getD cells (260 + i) 0 ≡ 0 → k ≢ 0 → undefinedPosition k (symbolsFrom cells i) ≡ undefinedPosition (k - 1) (symbolsFrom cells (i + 1)) + 1
+    pub position-of-later : i < getD cells 0 0 → getD cells (260 + i) 0 ≡ 0 → k ≢ 0 → undefinedPosition k (symbolsFrom cells i) ≡ undefinedPosition (k - 1) (symbolsFrom cells (i + 1)) + 1
     unfolding undefinedPosition
-    place-of-later h e z = rw (symbols-step h, eq-eqb _ _ e, ne-eqb _ _ z)
+    position-of-later h e z = rw (symbols-step h, eq-eqb _ _ e, ne-eqb _ _ z)
 
-    pub place-past-defined : i < getD cells 0 0 → getD cells (260 + i) 0 ≢ 0 → undefinedPosition k (symbolsFrom cells i) ≡ undefinedPosition k (symbolsFrom cells (i + 1)) + 1
+    pub position-past-defined : i < getD cells 0 0 → getD cells (260 + i) 0 ≢ 0 → undefinedPosition k (symbolsFrom cells i) ≡ undefinedPosition k (symbolsFrom cells (i + 1)) + 1
     unfolding undefinedPosition
-    place-past-defined h e = rw (symbols-step h, ne-eqb _ _ e, sub-zero)
+    position-past-defined h e = rw (symbols-step h, ne-eqb _ _ e, sub-zero)
 
-    pub place-of-none : getD cells 0 0 ≤ i → undefinedPosition k (symbolsFrom cells i) ≡ 0
+    pub position-of-none : getD cells 0 0 ≤ i → undefinedPosition k (symbolsFrom cells i) ≡ 0
     unfolding undefinedPosition
-    place-of-none h = rw (symbols-end h)
+    position-of-none h = rw (symbols-end h)
 
 -- ---- the value cells of good memory
 

@@ -21,7 +21,7 @@ use Rattle.state.proofs.ListLaws.{put, length-put, map-put, set-padded}
 use Rattle.state.proofs.RegionLaws.{flat, set-name, set-value}
 use Rattle.state.proofs.LayoutLaws.{table-long, holds, good-holds, count-is, symbol-is, unused-value}
 use Rattle.state.proofs.BoolLaws.{both}
-use Rattle.state.proofs.JoinLaws.{place-most, place-there, name-at-place, define-put, mention-known, mention-new, put-tidy, at-place, at-no-place}
+use Rattle.state.proofs.JoinLaws.{position-most, position-there, name-at-place, define-put, mention-known, mention-new, put-tidy, at-place, at-no-place}
 
 -- ---- a symbol stored at a position of the table, or just behind it
 
@@ -202,12 +202,12 @@ module _ (cells : List ℕ) (x : ℕ) where
     name-found i a q h e =
         let few : i < length (decode cells .symbols) = omega (arith, count-is cells) in
         let name : getD cells (4 + i) 0 ≡ x = ap (λ (m : ℕ). getD cells m 0) (sym q) ∙ e in
-        let there = place-there (decode cells .symbols) x i (g .tidy .different) few (ap (λ (s : Symbol). s .name) (symbol-is cells i h) ∙ name) in
+        let there = position-there (decode cells .symbols) x i (g .tidy .different) few (ap (λ (s : Symbol). s .name) (symbol-is cells i h) ∙ name) in
         record { most = omega arith; is = sym there }
 
     pub name-none : NoneFrom cells x 0 → Position x (decode cells .symbols) (getD cells 0 0)
     name-none f =
-        let most : positionOf x (decode cells .symbols) ≤ length (decode cells .symbols) = place-most x (decode cells .symbols) in
+        let most : positionOf x (decode cells .symbols) ≤ length (decode cells .symbols) = position-most x (decode cells .symbols) in
         go (ltb (positionOf x (decode cells .symbols)) (length (decode cells .symbols))) refl most
       where
         go : (b : Bool) → ltb (positionOf x (decode cells .symbols)) (length (decode cells .symbols)) ≡ b → positionOf x (decode cells .symbols) ≤ length (decode cells .symbols) → Position x (decode cells .symbols) (getD cells 0 0)

@@ -84,15 +84,20 @@ fn worth_guessing(state: &[u64], names: usize) -> usize
     state[COUNT] as usize
 }
 
+// A name is guessed by its remainder.
+pub const REMAINDERS: u64 = 509;
+
+pub const GUESSES: usize = 512;
+
 // Guesses: by the remainder of a name, the position of one with that remainder.
-pub fn guesses(state: &[u64], names: usize) -> [u16; 512]
+pub fn guesses(state: &[u64], names: usize) -> [u16; GUESSES]
     requires { ⌜ Good (now state) ⌝ }
 {
     let n = worth_guessing(state, names);
-    let mut positions = [0u16; 512];
+    let mut positions = [0u16; GUESSES];
     let mut i = 0;
     while i < n {
-        positions[(state[NAMES + i] % 509) as usize] = i as u16;
+        positions[(state[NAMES + i] % REMAINDERS) as usize] = i as u16;
         i += 1;
     }
     positions

@@ -1,6 +1,6 @@
 // What a data record does.
-use crate::modes::record_done;
 use crate::modes::expect_subs;
+use crate::modes::record_done;
 use crate::stops::list_full;
 use crate::stops::misplaced;
 use rules::limits::MOST_ENTRIES;

@@ -1,4 +1,4 @@
--- Cells and the elements that stand in them: at a place, in a range, and a row's four numbers.
+-- Cells and the elements that stand in them: at an index, in a range, and a row's four numbers.
 use Prim.Native.Nat.{ℕ, _+_, _-_, _*_, _<_}
 use native.Mathlib.Omega.{arith}
 use mathlib.Core.List.{List, [], _∷_, _++_, append-assoc}

@@ -17,6 +17,10 @@ use Rattle.rules.specs.declared.line.Relocation.the-variants.{Plain, External, 
 use Rattle.rules.specs.declared.reading.Part.{Part}
 use Rattle.rules.specs.declared.reading.Part.the-variants.{EntryPart, ExternalPart, BlockPart, WordPart}
 
+-- more than the cells of a table, and so than its elements, in any file: no index to them overflows
+abbrev pub mostCells : ℕ
+mostCells = 131072
+
 -- ---- parts: kind and numbers in the first cell, name or text in the second
 
 -- the kinds; 0 is none

@@ -2,7 +2,7 @@
 ghost use Prim.Native.Nat.{_≤_};
 ghost use mathlib.Core.Path.{_≡_};
 ghost use lib.ListN.{getD};
-ghost use Rattle.tables.specs.Tables.{headIn, bodyIn};
+ghost use Rattle.tables.specs.Tables.{mostCells, headIn, bodyIn};
 
 // Room for the parts, and for the rows, of any file of 65,536 bytes.
 pub const PART_ROOM: usize = 65536;
@@ -19,10 +19,9 @@ pub fn cell(cells: &[u64], i: usize) -> u64
     0
 }
 
-
 // The first cell of element i.
 pub fn head_at(cells: &[u64], i: usize) -> u64
-    requires { ⌜ i ≤ 131072 ⌝ }
+    requires { ⌜ i ≤ mostCells ⌝ }
     ensures { λ r. ⌜ r ≡ headIn (now (cells .entry)) i ⌝ }
 {
     cell(cells, 2 * i)
@@ -30,7 +29,7 @@ pub fn head_at(cells: &[u64], i: usize) -> u64
 
 // The second cell of element i.
 pub fn body_at(cells: &[u64], i: usize) -> u64
-    requires { ⌜ i ≤ 131072 ⌝ }
+    requires { ⌜ i ≤ mostCells ⌝ }
     ensures { λ r. ⌜ r ≡ bodyIn (now (cells .entry)) i ⌝ }
 {
     cell(cells, 2 * i + 1)

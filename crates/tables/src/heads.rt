@@ -10,6 +10,7 @@ use crate::parts::RELOCATED_ENTRY;
 ghost use Prim.Native.Nat.{_≤_};
 ghost use mathlib.Core.Bool.{cond};
 ghost use mathlib.Core.Path.{_≡_};
+ghost use Rattle.rules.specs.Limits.{programWords};
 ghost use Rattle.tables.specs.Heads.{isEntry, isRelocated, valueOf, isExternal, blockEnd, isWord, isReference, addressOf, argumentOf};
 
 pub fn is_entry(head: u64) -> bool
@@ -30,7 +31,7 @@ pub fn is_relocated(head: u64) -> bool
 
 // Only a relocated entry moves with the base.
 pub fn entry_value(head: u64, base: usize) -> usize
-    requires { ⌜ base ≤ 4096 ⌝ }
+    requires { ⌜ base ≤ programWords ⌝ }
     ensures { λ r. ⌜ r ≡ valueOf base head ⌝ }
 {
     let value = (head / KINDS % NUMBERS) as usize;

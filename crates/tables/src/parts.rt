@@ -90,7 +90,8 @@ pub fn part_head(part: Part) -> u64
     match part {
         Part::EntryPart(e) => entry_head(e),
         Part::ExternalPart(_) => EXTERNAL,
-        Part::BlockPart { offset, count } => BLOCK + KINDS * (offset as u64 + NUMBERS * (count as u64)),
+        Part::BlockPart { offset, count } => BLOCK
+            + KINDS * (offset as u64 + NUMBERS * (count as u64)),
         Part::WordPart { address, word } => {
             let relocation = word.relocation;
             word_head(address, relocation)

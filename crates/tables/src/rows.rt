@@ -3,7 +3,7 @@ use crate::cells::body_at;
 use crate::cells::head_at;
 ghost use Prim.Native.Nat.{_≤_, _<_, _^_, min};
 ghost use mathlib.Core.Path.{_≡_};
-ghost use Rattle.tables.specs.Tables.{rowHead, rowBody, kindIn, lineIn, startIn, endIn, cellsIn, RowsOf};
+ghost use Rattle.tables.specs.Tables.{mostCells, rowHead, rowBody, kindIn, lineIn, startIn, endIn, cellsIn, RowsOf};
 
 // The kinds, in the low two bits of a row's first cell: a module that stands free, one of a section, a section.
 pub const FREE: u64 = 1;
@@ -33,14 +33,14 @@ pub fn row_body(start: usize, end: usize) -> u64
 }
 
 pub fn row_kind(rows: &[u64], i: usize) -> u64
-    requires { ⌜ i ≤ 131072 ⌝ }
+    requires { ⌜ i ≤ mostCells ⌝ }
     ensures { λ r. ⌜ r ≡ kindIn (now (rows .entry)) i ⌝ }
 {
     head_at(rows, i) % KINDS
 }
 
 pub fn row_line(rows: &[u64], i: usize) -> u64
-    requires { ⌜ i ≤ 131072 ⌝ }
+    requires { ⌜ i ≤ mostCells ⌝ }
     ensures { λ r. ⌜ r ≡ lineIn (now (rows .entry)) i ⌝ }
 {
     head_at(rows, i) / KINDS
@@ -48,7 +48,7 @@ pub fn row_line(rows: &[u64], i: usize) -> u64
 
 // Where the parts of a module, or the rows of a section, begin.
 pub fn row_start(rows: &[u64], i: usize) -> usize
-    requires { ⌜ i ≤ 131072 ⌝ }
+    requires { ⌜ i ≤ mostCells ⌝ }
     ensures { λ r. ⌜ r ≡ startIn (now (rows .entry)) i ⌝ }
 {
     (body_at(rows, i) % STARTS) as usize
@@ -56,7 +56,7 @@ pub fn row_start(rows: &[u64], i: usize) -> usize
 
 // Where they end.
 pub fn row_end(rows: &[u64], i: usize) -> usize
-    requires { ⌜ i ≤ 131072 ⌝ }
+    requires { ⌜ i ≤ mostCells ⌝ }
     ensures { λ r. ⌜ (r ≡ endIn (now (rows .entry)) i) × (r < 2 ^ 48) ⌝ }
 {
     (body_at(rows, i) / STARTS) as usize
@@ -69,7 +69,7 @@ pub struct Section {
 }
 
 pub fn section_of(rows: &[u64], i: usize) -> Section
-    requires { ⌜ i ≤ 131072 ⌝ }
+    requires { ⌜ i ≤ mostCells ⌝ }
     ensures { λ r. ⌜ RowsOf (now (rows .entry)) i r ⌝ }
 {
     let first = row_start(rows, i);
@@ -91,7 +91,7 @@ fn least(a: usize, b: usize) -> usize
 
 // The cells of the module of row i. A range that passes the table's end stops there.
 pub fn module_cells<'a>(parts: &'a [u64], rows: &[u64], i: usize) -> &'a [u64]
-    requires { ⌜ i ≤ 131072 ⌝ }
+    requires { ⌜ i ≤ mostCells ⌝ }
     ensures { λ r. ⌜ now r ≡ cellsIn (now (parts .entry)) (startIn (now (rows .entry)) i) (endIn (now (rows .entry)) i) ⌝ }
 {
     let end = least(2 * row_end(rows, i), parts.len());

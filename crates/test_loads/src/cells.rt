@@ -1,7 +1,7 @@
 // What a call left of the cells that it was lent.
-use linker::STATE_CELLS;
 use crate::print::number;
 use crate::print::say;
+use linker::STATE_CELLS;
 
 fn same(a: &[u64; STATE_CELLS], b: &[u64; STATE_CELLS]) -> bool {
     let mut i = 0;

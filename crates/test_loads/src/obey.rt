@@ -1,5 +1,4 @@
 // A line of a run: which call it is, and on what.
-use linker::STATE_CELLS;
 use crate::calls::base;
 use crate::calls::end;
 use crate::calls::force;
@@ -12,6 +11,7 @@ use crate::loading::load;
 use crate::loading::load_blank;
 use crate::loading::load_into;
 use crate::print::say;
+use linker::STATE_CELLS;
 use test_script::between;
 use test_script::byte;
 use test_script::file_end;

@@ -1,11 +1,11 @@
 // Printing what reading a file came to. Numbers of the file stand in octal, lines, columns and counts in decimal.
 use libc::STDOUT_FILENO;
 use reading::read_file;
+use rules::limits::LONGEST_FILE;
 use rules::line::Entry;
 use rules::line::Relocation;
 use rules::reading::Part;
 use rules::reading::Reading;
-use rules::limits::LONGEST_FILE;
 use tables::cells::PART_ROOM;
 use tables::cells::ROW_ROOM;
 use tables::cells::body_at;

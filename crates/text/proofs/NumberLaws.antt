@@ -13,7 +13,7 @@ use borrow.Author.Tests.{eq-eqb, ne-eqb, leb-true}
 use Rattle.rules.specs.Text.{space, all, isOctal, octal, isNumber, numberOf}
 use Rattle.text.specs.Scan.{part, past, isNot, InFile}
 use Rattle.text.specs.FieldBounds.{isSpace, fieldStart, fieldStop}
-use Rattle.text.specs.Answers.{numberIn, small}
+use Rattle.text.specs.Values.{numberIn, small}
 use Rattle.text.specs.Digits.{DigitsRead, fieldText, FieldRead}
 use Rattle.text.specs.declared.numbers.DigitRun.{DigitRun}
 use Rattle.text.specs.declared.numbers.Number.{Number}

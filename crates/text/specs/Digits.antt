@@ -8,7 +8,7 @@ use Rattle.rules.specs.Limits.{mostDigits}
 use Rattle.rules.specs.Text.{space, all, isOctal, octal, numberOf}
 use Rattle.text.specs.Scan.{part, past, isNot}
 use Rattle.text.specs.FieldBounds.{fieldStart, fieldStop}
-use Rattle.text.specs.Answers.{numberIn}
+use Rattle.text.specs.Values.{numberIn}
 use Rattle.text.specs.declared.numbers.DigitRun.{DigitRun}
 use Rattle.text.specs.declared.numbers.NumberField.{NumberField}
 

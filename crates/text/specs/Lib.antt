@@ -1,5 +1,5 @@
 pub mod Scan
 pub mod LineEnds
 pub mod FieldBounds
-pub mod Answers
+pub mod Values
 pub mod Digits

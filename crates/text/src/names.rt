@@ -2,7 +2,7 @@
 use rules::limits::LONGEST_NAME;
 ghost use mathlib.Core.Path.{_≡_};
 ghost use Rattle.rules.specs.Text.{between, isLetter, isLetterOrDigit, isName, packName, nameOf};
-ghost use Rattle.text.specs.Answers.{nameIn, ByteAt};
+ghost use Rattle.text.specs.Values.{nameIn, ByteAt};
 
 pub enum Name {
     // The name's six bytes in base 256, the first highest, 0 where it is shorter.

@@ -8,7 +8,7 @@ ghost use Prim.Native.Nat.{_+_, _≤_, min};
 ghost use Rattle.rules.specs.Limits.{mostDigits};
 ghost use Rattle.rules.specs.Text.{numberOf};
 ghost use Rattle.text.specs.Scan.{InFile};
-ghost use Rattle.text.specs.Answers.{numberIn, small};
+ghost use Rattle.text.specs.Values.{numberIn, small};
 ghost use Rattle.text.specs.Digits.{DigitsRead, FieldRead};
 
 pub enum Number {

@@ -11,7 +11,7 @@ use Rattle.rules.specs.Reading.{Module, Item, free, section}
 use Rattle.rules.proofs.ReadingLaws.{ModuleSound, ItemSound}
 use Rattle.rules.specs.Load.{refusal, Walk, Progress, walkItem, walkItems, testSection, entryNames}
 use Rattle.rules.specs.declared.answer.Refusal.{Refusal}
-use Rattle.tables.specs.Tables.{kindIn, freeRow, sectionRow, moduleIn, sectionIn}
+use Rattle.tables.specs.Tables.{mostCells, kindIn, freeRow, sectionRow, moduleIn, sectionIn}
 use Rattle.tables.specs.declared.rows.Section.{Section}
 use Rattle.state.specs.Good.{Good}
 use Rattle.placing.specs.Walks.{Agrees}
@@ -26,7 +26,7 @@ sectionRounds = 257
 
 -- more rows than any file gives
 abbrev pub mostRows : ℕ
-mostRows = 131072
+mostRows = mostCells
 
 abbrev pub walkRounds : ℕ
 walkRounds = sectionRounds * mostRows
@@ -58,7 +58,7 @@ pub record TestedSection (line : ℕ) (ms : List Module) (refusal : Refusal) (r 
 
 -- modules that the index of their entries has room for
 pub record Indexable (parts rows : List ℕ) (s : Section) (index : List ℕ) : Type 0 where
-  pub parts-few : length parts ≤ 131072
+  pub parts-few : length parts ≤ mostCells
   pub few : (i : ℕ) → i < s .count → length (entryNames (moduleIn parts rows (s .first + i))) ≤ mostEntries
   pub long : length index ≡ size
 

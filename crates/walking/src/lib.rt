@@ -19,7 +19,7 @@ ghost use Rattle.rules.specs.Reading.{free};
 ghost use Rattle.rules.specs.Load.{walkItem, walkItems};
 ghost use Rattle.rules.proofs.TestLaws.{Every};
 ghost use Rattle.rules.proofs.ReadingLaws.{ModuleSound, ItemSound};
-ghost use Rattle.tables.specs.Tables.{lineIn, moduleIn, modulesIn, sectionIn, itemsIn};
+ghost use Rattle.tables.specs.Tables.{mostCells, lineIn, moduleIn, modulesIn, sectionIn, itemsIn};
 ghost use Rattle.state.specs.Good.{Good};
 ghost use Rattle.index.specs.Index.{size};
 ghost use Rattle.search.specs.Searching.{SectionSound};
@@ -67,7 +67,7 @@ fn walk_section(
     state: &mut [u64],
 ) -> WalkSoFar
     requires { ⌜ (row < mostRows) × (far .rounds ≤ walkRounds) ⌝ }
-    requires { ⌜ (length (now parts) ≤ 131072) × (length (now index) ≡ size) ⌝ }
+    requires { ⌜ (length (now parts) ≤ mostCells) × (length (now index) ≡ size) ⌝ }
     requires { ⌜ ItemSound (sectionIn (now parts) (now rows) row) ⌝ }
     requires { ⌜ Good (now state) ⌝ }
     ensures { λ r. ⌜ Advances (λ p. walkItem p (sectionIn (now (parts .entry)) (now (rows .entry)) row)) sectionRounds far (now (state .entry)) r (now (state .exit)) × (length (now (index .exit)) ≡ size) ⌝ }
@@ -114,7 +114,7 @@ fn walk_row(
     state: &mut [u64],
 ) -> WalkSoFar
     requires { ⌜ (row < mostRows) × (far .rounds ≤ walkRounds) ⌝ }
-    requires { ⌜ (length (now parts) ≤ 131072) × (length (now index) ≡ size) ⌝ }
+    requires { ⌜ (length (now parts) ≤ mostCells) × (length (now index) ≡ size) ⌝ }
     requires { ⌜ RowSound (now parts) (now rows) row ⌝ }
     requires { ⌜ Good (now state) ⌝ }
     ensures { λ r. ⌜ Advances (rowStep (now (parts .entry)) (now (rows .entry)) row) sectionRounds far (now (state .entry)) r (now (state .exit)) × (length (now (index .exit)) ≡ size) ⌝ }
@@ -131,7 +131,7 @@ fn walk_row(
 
 // The first n rows, in their order.
 pub fn walk(parts: &[u64], rows: &[u64], n: usize, state: &mut [u64]) -> WalkSoFar
-    requires { ⌜ (n ≤ mostRows) × (length (now parts) ≤ 131072) ⌝ }
+    requires { ⌜ (n ≤ mostRows) × (length (now parts) ≤ mostCells) ⌝ }
     requires { ⌜ Every ItemSound (itemsIn (now parts) (now rows) n) ⌝ }
     requires { ⌜ Good (now state) ⌝ }
     ensures { λ r. ⌜ Advances (λ p. walkItems p (itemsIn (now (parts .entry)) (now (rows .entry)) n)) walkRounds unwalked (now (state .entry)) r (now (state .exit)) ⌝ }

@@ -2,7 +2,7 @@ use mathlib.Core.Path.{refl, sym, ap, _∙_}
 use Rattle.rules.specs.Placing.{mention}
 use Rattle.rules.specs.Calls.{force, stopped}
 use Rattle.state.specs.Layout.{decode}
-use Rattle.text.specs.Answers.{nameIn}
+use Rattle.text.specs.Values.{nameIn}
 use Rattle.state.proofs.PromiseLaws.{called-stopped}
 use Rattle.commands.proofs.CommandLaws.{called-joined, called-kept, force-shut, force-illegal, force-done, force-full}
 use Rattle.soundness.proofs.RefusalLaws.{refused}

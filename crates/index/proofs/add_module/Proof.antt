@@ -4,7 +4,7 @@ use mathlib.Core.Path.{_≡_, refl, sym, ap, subst, _∙_}
 use lib.ListN.{length}
 use Rattle.rules.proofs.BoolLaws.{never}
 use Rattle.tables.specs.Tables.{startIn, endIn, cellsIn}
-use Rattle.index.proofs.FillLaws.{Adding, adding-start, place-small, entry-fits, adding-next, adding-again, adding-done}
+use Rattle.index.proofs.FillLaws.{Adding, adding-start, part-small, entry-fits, adding-next, adding-again, adding-done}
 use Rattle.index.proofs.add_module.Statement.{statement}
 use Rattle.index.proofs.add_module.Tie as tie
 
@@ -27,10 +27,10 @@ loop-holds : tie.Need-loop-holds Inv-loop μ-loop
 loop-holds c = let a = c .before .before .before .before .before .args in let p = c .before .before .before .before .before .pre in (omega arith, adding-start (a .parts .now) (a .rows .now) (a .first) (a .n) (a .m) refl (p .0 .2) (p .1 .1 .0) (p .1 .1 .1))
 
 add-add-part : tie.Need-add-add-part Inv-loop μ-loop
-add-add-part c = let a = c .before .before .before .before .before .before .before .args in let p = c .before .before .before .before .before .before .before .pre in omega (arith, place-small (a .parts .now) (a .rows .now) (a .first) (a .n) (a .m) refl (subst (λ x. c .before .loop .q < length x / 2) (c .before .before .module-cells .ensures) (c .loop-test .taken)) (c .before .before .before .row-start .ensures) (p .1 .0))
+add-add-part c = let a = c .before .before .before .before .before .before .before .args in let p = c .before .before .before .before .before .before .before .pre in omega (arith, part-small (a .parts .now) (a .rows .now) (a .first) (a .n) (a .m) refl (subst (λ x. c .before .loop .q < length x / 2) (c .before .before .module-cells .ensures) (c .loop-test .taken)) (c .before .before .before .row-start .ensures) (p .1 .0))
 
 add-part-requires : tie.Need-add-part-requires Inv-loop μ-loop
-add-part-requires c κs = let a = c .before .before .before .before .before .before .before .before .args in let p = c .before .before .before .before .before .before .before .before .pre in let l = c .before .before .loop in ((place-small (a .parts .now) (a .rows .now) (a .first) (a .n) (a .m) refl (subst (λ x. c .before .before .loop .q < length x / 2) (c .before .before .before .module-cells .ensures) (c .before .loop-test .taken)) (c .before .before .before .before .row-start .ensures) (p .1 .0), omega (arith, p .0)), (l .inv .1 .indexed, entry-fits (a .parts .now) (a .rows .now) (a .first) (a .n) (a .m) refl (subst (λ x. c .before .before .loop .q < length x / 2) (c .before .before .before .module-cells .ensures) (c .before .loop-test .taken)) (c .before .before .before .before .row-start .ensures) (omega (arith, p .0)) (l .inv .1)))
+add-part-requires c κs = let a = c .before .before .before .before .before .before .before .before .args in let p = c .before .before .before .before .before .before .before .before .pre in let l = c .before .before .loop in ((part-small (a .parts .now) (a .rows .now) (a .first) (a .n) (a .m) refl (subst (λ x. c .before .before .loop .q < length x / 2) (c .before .before .before .module-cells .ensures) (c .before .loop-test .taken)) (c .before .before .before .before .row-start .ensures) (p .1 .0), omega (arith, p .0)), (l .inv .1 .indexed, entry-fits (a .parts .now) (a .rows .now) (a .first) (a .n) (a .m) refl (subst (λ x. c .before .before .loop .q < length x / 2) (c .before .before .before .module-cells .ensures) (c .before .loop-test .taken)) (c .before .before .before .before .row-start .ensures) (omega (arith, p .0)) (l .inv .1)))
 
 same-length : tie.Need-same-length Inv-loop μ-loop
 same-length c = c .before .before .before .add-part .ensures .long ∙ sym (c .before .before .before .before .before .before .before .before .before .before .before .before .pre .1 .1 .1 .owns .indexed .long)

@@ -1,4 +1,4 @@
--- `record::fields_say` meets its contract: by whether there is a field, then by what is expected.
+-- `line::fields_say` meets its contract: by whether there is a field, then by what is expected.
 -- Assumes nothing.
 use mathlib.Core.Path.{_≡_}
 use denote.Ref.{now}

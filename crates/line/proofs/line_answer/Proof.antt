@@ -1,4 +1,4 @@
--- `record::line_answer` meets its contract: what the fields say, tested by the bytes.
+-- `line::line_answer` meets its contract: what the fields say, tested by the bytes.
 -- Assumes nothing.
 use Rattle.line.proofs.AnswerLaws.{line-whole}
 use borrow.Author.Needs.{needs}

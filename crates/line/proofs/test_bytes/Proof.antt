@@ -1,4 +1,4 @@
--- `record::test_bytes` meets its contract: the leftmost fault is told.
+-- `line::test_bytes` meets its contract: the leftmost fault is told.
 -- Assumes nothing.
 use Rattle.line.proofs.AnswerLaws.{all-legal, fault-first, byte-before, byte-only}
 use borrow.Author.Needs.{needs}

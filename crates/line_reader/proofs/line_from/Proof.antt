@@ -1,4 +1,4 @@
--- `lines::line_from` meets its contract: a walk of its MIR, by hand. A `LineReader` is made of the file, moved to the position and asked for its next line. All that the proof knows of `made`, `moved` and `next` is that each meets its contract.
+-- `line_reader::line_from` meets its contract: a walk of its MIR, by hand. A `LineReader` is made of the file, moved to the position and asked for its next line. All that the proof knows of `made`, `moved` and `next` is that each meets its contract.
 -- The machine value that each call returns is stored and passed on as it is. In a local of a body MIR erases the lifetime of the struct's type, so the value is shown to have the type at `erased`: what the struct owns does not say the lifetime's name.
 -- Assumes nothing.
 use mathlib.Core.Path.{_≡_, refl, sym, subst, _∙_}
@@ -46,17 +46,17 @@ use Rattle.text.proofs.lines.LineSpan as S
 use Rattle.text.proofs.lines.LineSpan.Laws as S′
 use Rattle.line_reader.proofs.made as made
 use Rattle.line_reader.proofs.made.Symbol as made-def
-use Rattle.line_reader.proofs.made.Symbol.{name as #lines·made}
+use Rattle.line_reader.proofs.made.Symbol.{name as #line-reader·made}
 use Rattle.line_reader.proofs.made.Met as made-thm
 use Rattle.line_reader.proofs.moved as moved
 use Rattle.line_reader.proofs.moved.Symbol as moved-def
-use Rattle.line_reader.proofs.moved.Symbol.{name as #lines·moved}
+use Rattle.line_reader.proofs.moved.Symbol.{name as #line-reader·moved}
 use Rattle.line_reader.proofs.moved.Met as moved-thm
 use Rattle.line_reader.proofs.next as next
 use Rattle.line_reader.proofs.next.Symbol as next-def
-use Rattle.line_reader.proofs.next.Symbol.{name as #lines·next}
+use Rattle.line_reader.proofs.next.Symbol.{name as #line-reader·next}
 use Rattle.line_reader.proofs.next.Met as next-thm
-use Rattle.line_reader.proofs.line_from.Key.{name as #lines·line-from}
+use Rattle.line_reader.proofs.line_from.Key.{name as #line-reader·line-from}
 use Rattle.line_reader.proofs.line_from as from′
 use Rattle.line_reader.proofs.line_from.Statement as stated
 use Rattle.line_reader.proofs.line_from.Code as code
@@ -147,7 +147,7 @@ module _ {M : Type 1} (𝓤 : URA M) (H : Heap 𝓤) (A : Atoms 𝓤) (W : Given
       suffices ! _ (ends-at 𝓤 H A from′.ended stayed (from′.clauses 𝓤 H A mem run) W (((κ, tt), (q, tt), tt, (s, (n, tt)), at), tt) u t (tt, (tt, tt)) (tt, (tt, tt))) $ says ! e $
       move ! (1 ∷ []) $ frame ! $ nothing ! $ owned ! usize (Is usize) (uint-makes 𝓤 H A W w64) n _ (refl, ok) $ fjoin ! $ move ! (2 ∷ 0 ∷ []) $ fjoin ! $ frame ! $ done !
 
-  module _ (C : Calls 𝓤 H) (Λ : Loops 𝓤 H) (fm : FmC 𝓤 H (W .laws) C) (known-made : Triple 𝓤 (C #lines·made) (Made 𝓤 H A mem run)) (known-moved : Triple 𝓤 (C #lines·moved) (Moved 𝓤 H A mem run)) (known-next : Triple 𝓤 (C #lines·next) (Next 𝓤 H A mem run)) where
+  module _ (C : Calls 𝓤 H) (Λ : Loops 𝓤 H) (fm : FmC 𝓤 H (W .laws) C) (known-made : Triple 𝓤 (C #line-reader·made) (Made 𝓤 H A mem run)) (known-moved : Triple 𝓤 (C #line-reader·moved) (Moved 𝓤 H A mem run)) (known-next : Triple 𝓤 (C #line-reader·next) (Next 𝓤 H A mem run)) where
     walk : Is (ShrSlice (named 0) κ u8) s (v ∷ []) → ent 𝓤 (onEntry 𝓤 H A from′.signature (κ, tt) (q, tt) (s, (n, tt)) at) (WpFn 𝓤 H C Λ code.function (v ∷ vint w64 n ∷ []) Post)
     walk is₀ =
         qed W (raw (onEntry 𝓤 H A from′.signature (κ, tt) (q, tt) (s, (n, tt)) at) ∷ []) ∵ enter ! C Λ code.function (v ∷ vint w64 n ∷ []) _ $
@@ -180,13 +180,13 @@ module _ {M : Type 1} (𝓤 : URA M) (H : Heap 𝓤) (A : Atoms 𝓤) (W : Given
         by ! (exits t u″ (found p t (e′ .0 ∙ e .0) (e′ .1) e″)))))))))))))))))))
 
 module _ {M : Type 1} (𝓤 : URA M) (H : Heap 𝓤) (A : Atoms 𝓤) (W : Given 𝓤 H A) (mem : Memory → SProp 𝓤) (run : Routine → Fun 𝓤) where
-  line-from-walks : (C : Calls 𝓤 H) (Λ : Loops 𝓤 H) → FmC 𝓤 H (W .laws) C → Triple 𝓤 (C #lines·made) (Made 𝓤 H A mem run) → Triple 𝓤 (C #lines·moved) (Moved 𝓤 H A mem run) → Triple 𝓤 (C #lines·next) (Next 𝓤 H A mem run)
+  line-from-walks : (C : Calls 𝓤 H) (Λ : Loops 𝓤 H) → FmC 𝓤 H (W .laws) C → Triple 𝓤 (C #line-reader·made) (Made 𝓤 H A mem run) → Triple 𝓤 (C #line-reader·moved) (Moved 𝓤 H A mem run) → Triple 𝓤 (C #line-reader·next) (Next 𝓤 H A mem run)
       → Walks 𝓤 H A from′.ended stayed (WpFn 𝓤 H C Λ code.function) (from′.clauses 𝓤 H A mem run)
   line-from-walks C Λ fm known-made known-moved known-next = walked 𝓤 H A from′.ended stayed (from′.clauses 𝓤 H A mem run) (WpFn 𝓤 H C Λ code.function) (λ κs. (slice-vals, (uint-vals w64, tt))) (λ κs. (shr-slice-tells (named 0) (κs .0) u8, (uint-tells w64, tt)))
       (λ κs qs bounds a g are. needs 𝓤 _ _ (λ within. walk 𝓤 H A W mem run (κs .0) (qs .0) (a .0) (a .1 .0) (are .1 .0 .1) within C Λ fm known-made known-moved known-next (are .0)))
 
 line-from-meets : {M : Type 1} (𝓤 : URA M) (H : Heap 𝓤) (A : Atoms 𝓤) (W : Given 𝓤 H A) (mem : Memory → SProp 𝓤) (run : Routine → Fun 𝓤) (𝓣 : Tables 𝓤 H)
-    → Triple 𝓤 (𝓣 .C #lines·made) (Made 𝓤 H A mem run) → Triple 𝓤 (𝓣 .C #lines·moved) (Moved 𝓤 H A mem run) → Triple 𝓤 (𝓣 .C #lines·next) (Next 𝓤 H A mem run)
+    → Triple 𝓤 (𝓣 .C #line-reader·made) (Made 𝓤 H A mem run) → Triple 𝓤 (𝓣 .C #line-reader·moved) (Moved 𝓤 H A mem run) → Triple 𝓤 (𝓣 .C #line-reader·next) (Next 𝓤 H A mem run)
     → Meets 𝓤 H A from′.signature (WpFn 𝓤 H (𝓣 .C) (𝓣 .Λ) code.function) (from′.spec 𝓤 H A mem run)
 line-from-meets 𝓤 H A W mem run 𝓣 known-made known-moved known-next = walk-meets 𝓤 H A from′.ended stayed W (goes-none-slice 𝓤 H A W 1 (0 ∷ []) tt (plain (λ _. u8)) yes, (goes-none 𝓤 H A W 1 (λ _. usize) yes (λ κs x f. refl), tt)) (from′.clauses 𝓤 H A mem run) (WpFn 𝓤 H (𝓣 .C) (𝓣 .Λ) code.function) (WpFn-mono 𝓤 H (W .laws) 𝓣 code.function)
     (line-from-walks 𝓤 H A W mem run (𝓣 .C) (𝓣 .Λ) (fmOf 𝓤 H (W .laws) 𝓣) known-made known-moved known-next)
@@ -195,8 +195,8 @@ pub line-from-spec : {M : Type 1} → stated.statement M
 unfolding code.routine tablesOf
 line-from-spec 𝓤 H 𝓜 𝓖 𝓡 =
     entered 𝓤 H (tripleOf 𝓤 H (𝓖 .A) from′.signature (from′.spec 𝓤 H (𝓖 .A) (𝓜 .mem) (𝓡 .run)))
-    (tables 𝓤 H 𝓜 𝓡 code.env .C) (tables 𝓤 H 𝓜 𝓡 code.env .Λ) #lines·line-from code.function (code.unfolded 𝓤 H 𝓜 𝓡)
+    (tables 𝓤 H 𝓜 𝓡 code.env .C) (tables 𝓤 H 𝓜 𝓡 code.env .Λ) #line-reader·line-from code.function (code.unfolded 𝓤 H 𝓜 𝓡)
     (line-from-meets 𝓤 H (𝓖 .A) (givenOf 𝓤 H 𝓜 𝓖) (𝓜 .mem) (𝓡 .run) (tablesOf 𝓤 H 𝓜 (tables 𝓤 H 𝓜 𝓡 code.env))
-    (cited 𝓤 H (Made 𝓤 H (𝓖 .A) (𝓜 .mem) (𝓡 .run)) 𝓜 𝓡 code.env #lines·made made-def.routine code.calls-line-reader·made (made-thm.met 𝓤 H 𝓜 𝓖 𝓡))
-    (cited 𝓤 H (Moved 𝓤 H (𝓖 .A) (𝓜 .mem) (𝓡 .run)) 𝓜 𝓡 code.env #lines·moved moved-def.routine code.calls-line-reader·moved (moved-thm.met 𝓤 H 𝓜 𝓖 𝓡))
-    (cited 𝓤 H (Next 𝓤 H (𝓖 .A) (𝓜 .mem) (𝓡 .run)) 𝓜 𝓡 code.env #lines·next next-def.routine code.calls-line-reader·next (next-thm.met 𝓤 H 𝓜 𝓖 𝓡)))
+    (cited 𝓤 H (Made 𝓤 H (𝓖 .A) (𝓜 .mem) (𝓡 .run)) 𝓜 𝓡 code.env #line-reader·made made-def.routine code.calls-line-reader·made (made-thm.met 𝓤 H 𝓜 𝓖 𝓡))
+    (cited 𝓤 H (Moved 𝓤 H (𝓖 .A) (𝓜 .mem) (𝓡 .run)) 𝓜 𝓡 code.env #line-reader·moved moved-def.routine code.calls-line-reader·moved (moved-thm.met 𝓤 H 𝓜 𝓖 𝓡))
+    (cited 𝓤 H (Next 𝓤 H (𝓖 .A) (𝓜 .mem) (𝓡 .run)) 𝓜 𝓡 code.env #line-reader·next next-def.routine code.calls-line-reader·next (next-thm.met 𝓤 H 𝓜 𝓖 𝓡)))

@@ -1,4 +1,4 @@
--- `lines::made` meets its contract: a walk of its MIR, by hand. A `LineReader` is made of the slice passed and 0, in the result's local.
+-- `line_reader::made` meets its contract: a walk of its MIR, by hand. A `LineReader` is made of the slice passed and 0, in the result's local.
 -- A `&[u8]` is Copy, so what it owns is had twice: once for src at exit, and once inside the result, beside the facts of at.
 -- Assumes nothing.
 use mathlib.Core.Path.{refl}
@@ -38,7 +38,7 @@ use denote.Exit.{yes}
 use Rattle.line_reader.specs.declared.LineReader.{LineReader}
 use Rattle.line_reader.proofs.LineReader as T
 use Rattle.line_reader.proofs.LineReader.Laws as T′
-use Rattle.line_reader.proofs.made.Key.{name as #lines·made}
+use Rattle.line_reader.proofs.made.Key.{name as #line-reader·made}
 use Rattle.line_reader.proofs.made as made
 use Rattle.line_reader.proofs.made.Statement as stated
 use Rattle.line_reader.proofs.made.Code as code
@@ -95,5 +95,5 @@ pub made-spec : {M : Type 1} → stated.statement M
 unfolding code.routine tablesOf
 made-spec 𝓤 H 𝓜 𝓖 𝓡 =
     entered 𝓤 H (tripleOf 𝓤 H (𝓖 .A) made.signature (made.spec 𝓤 H (𝓖 .A) (𝓜 .mem) (𝓡 .run)))
-    (tables 𝓤 H 𝓜 𝓡 code.env .C) (tables 𝓤 H 𝓜 𝓡 code.env .Λ) #lines·made code.function (code.unfolded 𝓤 H 𝓜 𝓡)
+    (tables 𝓤 H 𝓜 𝓡 code.env .C) (tables 𝓤 H 𝓜 𝓡 code.env .Λ) #line-reader·made code.function (code.unfolded 𝓤 H 𝓜 𝓡)
     (made-meets 𝓤 H (𝓖 .A) (givenOf 𝓤 H 𝓜 𝓖) (𝓜 .mem) (𝓡 .run) (tablesOf 𝓤 H 𝓜 (tables 𝓤 H 𝓜 𝓡 code.env)))

@@ -1,4 +1,4 @@
--- `lines::moved` meets its contract: a walk of its MIR, by hand. A struct is made anew of the slice that the one passed holds, and another number.
+-- `line_reader::moved` meets its contract: a walk of its MIR, by hand. A struct is made anew of the slice that the one passed holds, and another number.
 -- The struct is Copy: what it owns is had twice, one copy is kept whole for the exit, and the other, with the facts of the number in the place of at's, is what the result owns.
 -- Assumes nothing.
 use mathlib.Core.Path.{refl}
@@ -37,7 +37,7 @@ use denote.Exit.{yes}
 use Rattle.line_reader.specs.declared.LineReader.{LineReader}
 use Rattle.line_reader.proofs.LineReader as T
 use Rattle.line_reader.proofs.LineReader.Laws as T′
-use Rattle.line_reader.proofs.moved.Key.{name as #lines·moved}
+use Rattle.line_reader.proofs.moved.Key.{name as #line-reader·moved}
 use Rattle.line_reader.proofs.moved as moved
 use Rattle.line_reader.proofs.moved.Statement as stated
 use Rattle.line_reader.proofs.moved.Code as code
@@ -96,5 +96,5 @@ pub moved-spec : {M : Type 1} → stated.statement M
 unfolding code.routine tablesOf
 moved-spec 𝓤 H 𝓜 𝓖 𝓡 =
     entered 𝓤 H (tripleOf 𝓤 H (𝓖 .A) moved.signature (moved.spec 𝓤 H (𝓖 .A) (𝓜 .mem) (𝓡 .run)))
-    (tables 𝓤 H 𝓜 𝓡 code.env .C) (tables 𝓤 H 𝓜 𝓡 code.env .Λ) #lines·moved code.function (code.unfolded 𝓤 H 𝓜 𝓡)
+    (tables 𝓤 H 𝓜 𝓡 code.env .C) (tables 𝓤 H 𝓜 𝓡 code.env .Λ) #line-reader·moved code.function (code.unfolded 𝓤 H 𝓜 𝓡)
     (moved-meets 𝓤 H (𝓖 .A) (givenOf 𝓤 H 𝓜 𝓖) (𝓜 .mem) (𝓡 .run) (tablesOf 𝓤 H 𝓜 (tables 𝓤 H 𝓜 𝓡 code.env)))

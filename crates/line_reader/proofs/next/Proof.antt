@@ -1,4 +1,4 @@
--- `lines::next` meets its contract: a walk of its MIR, by hand. The struct is taken apart, and `next_line` is called on the slice and the number. All that the proof knows of `next_line` is that it meets its contract.
+-- `line_reader::next` meets its contract: a walk of its MIR, by hand. The struct is taken apart, and `next_line` is called on the slice and the number. All that the proof knows of `next_line` is that it meets its contract.
 -- The struct is Copy: what it owns is had twice, one copy is kept whole for the exit, and of the other what src owns goes to the callee, beside the lifetime's token, which comes back.
 -- Assumes nothing.
 use mathlib.Core.Path.{_≡_, refl}
@@ -53,7 +53,7 @@ use Rattle.text.proofs.lines.next_line as cursor
 use Rattle.text.proofs.lines.next_line.Symbol as cursor-def
 use Rattle.text.proofs.lines.next_line.Symbol.{name as #text·lines·next-line}
 use Rattle.text.proofs.lines.next_line.Met as cursor-thm
-use Rattle.line_reader.proofs.next.Key.{name as #lines·next}
+use Rattle.line_reader.proofs.next.Key.{name as #line-reader·next}
 use Rattle.line_reader.proofs.next as next
 use Rattle.line_reader.proofs.next.Statement as stated
 use Rattle.line_reader.proofs.next.Code as code
@@ -161,6 +161,6 @@ pub next-spec : {M : Type 1} → stated.statement M
 unfolding code.routine tablesOf
 next-spec 𝓤 H 𝓜 𝓖 𝓡 =
     entered 𝓤 H (tripleOf 𝓤 H (𝓖 .A) next.signature (next.spec 𝓤 H (𝓖 .A) (𝓜 .mem) (𝓡 .run)))
-    (tables 𝓤 H 𝓜 𝓡 code.env .C) (tables 𝓤 H 𝓜 𝓡 code.env .Λ) #lines·next code.function (code.unfolded 𝓤 H 𝓜 𝓡)
+    (tables 𝓤 H 𝓜 𝓡 code.env .C) (tables 𝓤 H 𝓜 𝓡 code.env .Λ) #line-reader·next code.function (code.unfolded 𝓤 H 𝓜 𝓡)
     (next-meets 𝓤 H (𝓖 .A) (givenOf 𝓤 H 𝓜 𝓖) (𝓜 .mem) (𝓡 .run) (tablesOf 𝓤 H 𝓜 (tables 𝓤 H 𝓜 𝓡 code.env))
     (cited 𝓤 H (NextLineAt 𝓤 H (𝓖 .A) (𝓜 .mem) (𝓡 .run)) 𝓜 𝓡 code.env #text·lines·next-line cursor-def.routine code.calls-text·lines·next-line (cursor-thm.met 𝓤 H 𝓜 𝓖 𝓡)))

@@ -1,4 +1,4 @@
--- `record::fields::marker_field` meets its contract: by what `is_marker` answers.
+-- `line::fields::marker_field` meets its contract: by what `is_marker` answers.
 -- Assumes nothing.
 use Rattle.line.specs.Fitting.{asHeld}
 use Rattle.line.proofs.KindLaws.{marker-yes, marker-no}

@@ -1,4 +1,4 @@
--- `record::fields::name_field` meets its contract: by what `read_name` answers.
+-- `line::fields::name_field` meets its contract: by what `read_name` answers.
 -- Assumes nothing.
 use Rattle.line.specs.Fitting.{asHeld}
 use Rattle.line.proofs.KindLaws.{name-yes, name-no}

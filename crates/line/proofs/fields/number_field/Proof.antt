@@ -1,4 +1,4 @@
--- `record::fields::number_field` meets its contract: by what `read_number` answers, then by the bounds.
+-- `line::fields::number_field` meets its contract: by what `read_number` answers, then by the bounds.
 -- Assumes nothing.
 use Rattle.line.specs.Fitting.{asHeld}
 use Rattle.line.proofs.KindLaws.{number-low, number-high, number-yes, number-no}

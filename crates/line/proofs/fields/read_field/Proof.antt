@@ -1,4 +1,4 @@
--- `record::fields::read_field` meets its contract: by the kind.
+-- `line::fields::read_field` meets its contract: by the kind.
 -- Assumes nothing.
 use Rattle.rules.specs.Line.{readField}
 use Rattle.line.specs.Fitting.{kindOf, asHeld}

@@ -1,4 +1,4 @@
--- `record::fitting::fit` meets its contract: at each field what is left decides.
+-- `line::fitting::fit` meets its contract: at each field what is left decides.
 -- Assumes nothing.
 use Prim.Native.Nat.{_-_}
 use mathlib.Core.Path.{refl}

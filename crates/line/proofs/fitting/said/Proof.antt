@@ -1,4 +1,4 @@
--- `record::fitting::said` meets its contract: by whether the fields fit.
+-- `line::fitting::said` meets its contract: by whether the fields fit.
 -- Assumes nothing.
 use borrow.Author.Needs.{needs}
 use Rattle.line.proofs.fitting.said.Statement.{statement}

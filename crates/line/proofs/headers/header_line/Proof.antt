@@ -1,4 +1,4 @@
--- `record::headers::header_line` meets its contract: by its code.
+-- `line::headers::header_line` meets its contract: by its code.
 -- Assumes nothing.
 use mathlib.Core.Path.{sym, _∙_}
 use native.Mathlib.Omega.{arith}

@@ -1,6 +1,6 @@
 use mathlib.Core.Path.{_∙_}
 use borrow.Author.Tests.{le-ltb}
--- `record::headers::is_block` meets its contract: below 12 only 2 is missing.
+-- `line::headers::is_block` meets its contract: below 12 only 2 is missing.
 -- Assumes nothing.
 use Rattle.line.proofs.HeaderLaws.{known-low, known-high}
 use Rattle.line.proofs.headers.is_block.Statement.{statement}

@@ -1,4 +1,4 @@
--- `record::records::code_line` meets its contract: by whether the first field is an asterisk.
+-- `line::records::code_line` meets its contract: by whether the first field is an asterisk.
 -- Assumes nothing.
 use mathlib.Core.Path.{sym, _∙_}
 use borrow.Author.Needs.{needs}

@@ -1,4 +1,4 @@
--- `record::records::entry_line` meets its contract: by whether the third field is 1.
+-- `line::records::entry_line` meets its contract: by whether the third field is 1.
 -- Assumes nothing.
 use mathlib.Core.Path.{sym, _∙_}
 use Rattle.rules.specs.Text.{numberOf}

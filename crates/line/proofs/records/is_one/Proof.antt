@@ -1,4 +1,4 @@
--- `record::records::is_one` meets its contract: by what `read_number` answers.
+-- `line::records::is_one` meets its contract: by what `read_number` answers.
 -- Assumes nothing.
 use Rattle.line.proofs.KindLaws.{one-is, one-not}
 use borrow.Author.Needs.{needs}

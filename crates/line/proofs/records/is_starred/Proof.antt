@@ -1,4 +1,4 @@
--- `record::records::is_starred` meets its contract: no field, another byte in front, or the field is compared.
+-- `line::records::is_starred` meets its contract: no field, another byte in front, or the field is compared.
 -- Assumes nothing.
 use mathlib.Core.List.{[], _∷_}
 use mathlib.Core.Path.{sym, ap, _∙_}

@@ -1,4 +1,4 @@
--- `record::records::past_field` meets its contract: behind the next field stand the others.
+-- `line::records::past_field` meets its contract: behind the next field stand the others.
 -- Assumes nothing.
 use Rattle.line.proofs.PeekLaws.{passed}
 use borrow.Author.Needs.{needs}

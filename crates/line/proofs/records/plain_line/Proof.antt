@@ -1,4 +1,4 @@
--- `record::records::plain_line` meets its contract: at each quarter what is left decides. Four quarters fit a u64.
+-- `line::records::plain_line` meets its contract: at each quarter what is left decides. Four quarters fit a u64.
 -- Assumes nothing.
 use Prim.Native.Nat.{_-_}
 use native.Mathlib.Omega.{arith}

@@ -1,4 +1,4 @@
--- `record::records::third_field` meets its contract: two fields are passed.
+-- `line::records::third_field` meets its contract: two fields are passed.
 -- Assumes nothing.
 use Rattle.line.proofs.PeekLaws.{third-text}
 use borrow.Author.Needs.{needs}

@@ -1,4 +1,4 @@
--- `record::shapes::answer` meets its contract: by the shape.
+-- `line::shapes::answer` meets its contract: by the shape.
 -- Assumes nothing.
 use mathlib.Core.Path.{refl, sym, ap, _∙_}
 use Rattle.line.specs.Fitting.{valuesOf}

@@ -1,4 +1,4 @@
--- `record::shapes::header_of` meets its contract: by the code.
+-- `line::shapes::header_of` meets its contract: by the code.
 -- Assumes nothing.
 use Rattle.rules.specs.Line.{headers, rowIn, rowOf}
 use Rattle.line.specs.Fitting.{valuesOf}

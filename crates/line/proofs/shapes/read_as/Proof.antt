@@ -1,4 +1,4 @@
--- `record::shapes::read_as` meets its contract: the letters between two starts are the kinds of the shape, and what is read says it.
+-- `line::shapes::read_as` meets its contract: the letters between two starts are the kinds of the shape, and what is read says it.
 -- Assumes nothing.
 use mathlib.Core.Path.{_∙_}
 use borrow.Author.Needs.{needs}

@@ -1,4 +1,4 @@
--- `record::shapes::relocation_of` meets its contract: by the type.
+-- `line::shapes::relocation_of` meets its contract: by the type.
 -- Assumes nothing.
 use borrow.Author.Tests.{eq-eqb, ne-eqb}
 use Rattle.line.proofs.shapes.relocation_of.Statement.{statement}

@@ -1,4 +1,4 @@
-use Rattle.state.proofs.SymbolLaws.{place-of-first, place-of-later, place-past-defined, place-of-none}
+use Rattle.state.proofs.SymbolLaws.{position-of-first, position-of-later, position-past-defined, position-of-none}
 use Rattle.state.specs.Table.{undefinedPosition}
 use Rattle.state.specs.Layout.{symbolsFrom, decode}
 use lib.ListN.{getD}
@@ -34,7 +34,7 @@ shared-slice-read-if1 : tie.Need-shared-slice-read-if1 Inv-loop μ-loop
 shared-slice-read-if1 c = omega arith
 
 returns : tie.Need-returns Inv-loop μ-loop
-returns c = omega (arith, place-of-first (c .before .before .before .before .before .before .args .state .now) _ _ (omega arith) (c .before .if1 .taken) (c .if2 .taken))
+returns c = omega (arith, position-of-first (c .before .before .before .before .before .before .args .state .now) _ _ (omega arith) (c .before .if1 .taken) (c .if2 .taken))
 
 sub-more : tie.Need-sub-more Inv-loop μ-loop
 sub-more c = omega arith
@@ -48,12 +48,12 @@ loop-less c = omega arith
 loop-again : tie.Need-loop-again Inv-loop μ-loop
 loop-again c =
     ⊎-elim
-    (λ w. (omega arith, omega arith, rw (w .2) (omega (arith, place-of-later (c .before .before .before .before .before .args .state .now) _ _ (omega arith) (w .0 .taken) (w .1 .left)))))
-    (λ w. (omega arith, omega arith, rw (w .1) (omega (arith, place-past-defined (c .before .before .before .before .before .args .state .now) _ (c .before .before .before .loop .more) (omega arith) (w .0 .left)))))
+    (λ w. (omega arith, omega arith, rw (w .2) (omega (arith, position-of-later (c .before .before .before .before .before .args .state .now) _ _ (omega arith) (w .0 .taken) (w .1 .left)))))
+    (λ w. (omega arith, omega arith, rw (w .1) (omega (arith, position-past-defined (c .before .before .before .before .before .args .state .now) _ (c .before .before .before .loop .more) (omega arith) (w .0 .left)))))
     (c .if1 .came)
 
 returns-2 : tie.Need-returns-2 Inv-loop μ-loop
-returns-2 c = omega (arith, place-of-none (c .before .before .before .args .state .now) (c .before .loop .i) (c .before .loop .more) (omega arith))
+returns-2 c = omega (arith, position-of-none (c .before .before .before .args .state .now) (c .before .loop .i) (c .before .loop .more) (omega arith))
 
 pub undefined-position-spec : {M : Type 1} → statement M
 undefined-position-spec =

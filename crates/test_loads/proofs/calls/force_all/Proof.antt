@@ -1,4 +1,4 @@
--- `loads::calls::force_all` ends: the count falls.
+-- `test_loads::calls::force_all` ends: the count falls.
 use Prim.Native.Nat.{_≤_}
 use borrow.Author.Needs.{needs}
 use Rattle.test_loads.proofs.calls.force_all.Statement.{statement}

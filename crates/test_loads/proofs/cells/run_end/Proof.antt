@@ -1,4 +1,4 @@
--- `loads::cells::run_end` is safe and ends: the measure is what is left of the cells.
+-- `test_loads::cells::run_end` is safe and ends: the measure is what is left of the cells.
 use Prim.Native.Nat.{_-_, _≤_}
 use borrow.Author.Needs.{needs}
 use Rattle.test_loads.proofs.cells.run_end.Statement.{statement}

@@ -1,4 +1,4 @@
--- `loads::cells::same` is safe and ends: the index stays in the cells.
+-- `test_loads::cells::same` is safe and ends: the index stays in the cells.
 use Prim.Native.Nat.{_-_, _≤_}
 use borrow.Author.Needs.{needs}
 use Rattle.test_loads.proofs.cells.same.Statement.{statement}

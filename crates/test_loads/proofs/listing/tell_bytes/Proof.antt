@@ -1,4 +1,4 @@
--- `loads::listing::tell_bytes` is safe and ends: the index stays in the output.
+-- `test_loads::listing::tell_bytes` is safe and ends: the index stays in the output.
 use Prim.Native.Nat.{_-_, _≤_}
 use borrow.Author.Needs.{needs}
 use Rattle.test_loads.proofs.listing.tell_bytes.Statement.{statement}

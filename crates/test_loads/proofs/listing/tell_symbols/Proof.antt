@@ -1,4 +1,4 @@
--- `loads::listing::tell_symbols` ends: the measure is how many indices are left.
+-- `test_loads::listing::tell_symbols` ends: the measure is how many indices are left.
 use Prim.Native.Nat.{_-_, _≤_}
 use borrow.Author.Needs.{needs}
 use Rattle.test_loads.proofs.listing.tell_symbols.Statement.{statement}

@@ -1,4 +1,4 @@
--- `readings::build::first_space` is safe and ends, and its answer lies in the text.
+-- `test_readings::build::first_space` is safe and ends, and its answer lies in the text.
 use Prim.Native.Nat.{_-_, _≤_}
 use lib.ListN.{length}
 use borrow.Author.Needs.{needs}

@@ -1,4 +1,4 @@
--- `readings::build::put_lines` ends: the measure is the number of turns that are left.
+-- `test_readings::build::put_lines` ends: the measure is the number of turns that are left.
 use Prim.Native.Nat.{_≤_}
 use borrow.Author.Needs.{needs}
 use Rattle.test_readings.proofs.build.put_lines.Statement.{statement}

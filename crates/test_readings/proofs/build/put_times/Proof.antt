@@ -1,4 +1,4 @@
--- `readings::build::put_times` ends: the measure is how many times are left.
+-- `test_readings::build::put_times` ends: the measure is how many times are left.
 use Prim.Native.Nat.{_-_, _≤_}
 use borrow.Author.Needs.{needs}
 use Rattle.test_readings.proofs.build.put_times.Statement.{statement}

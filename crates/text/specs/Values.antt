@@ -1,4 +1,4 @@
--- What reading a field answers.
+-- What a field reads as: a number, a name, or neither.
 use Prim.Native.Nat.{ℕ, _<_}
 use mathlib.Core.Bool.{cond}
 use mathlib.Core.List.{List}
@@ -12,7 +12,7 @@ use Rattle.text.specs.declared.numbers.Number.the-variants.{Value, NotAN
 use Rattle.text.specs.declared.names.Name.{Name}
 use Rattle.text.specs.declared.names.Name.the-variants.{Packed, NotAName}
 
--- the number that an answer holds
+-- the number, where the field is one
 abbrev pub numberIn : Number → Option ℕ
 numberIn (Value v) = some v
 numberIn NotANumber = none
@@ -21,7 +21,7 @@ numberIn NotANumber = none
 abbrev pub small : ℕ → Option ℕ
 small v = cond (leb v largestNumber) (some v) none
 
--- the packed name that an answer holds
+-- the packed name, where the field is one
 abbrev pub nameIn : Name → Option ℕ
 nameIn (Packed n) = some n
 nameIn NotAName = none
