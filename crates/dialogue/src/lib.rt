@@ -127,6 +127,9 @@ fn talk(state: &mut [u64], work: &mut [u64], room: &mut [u8], keys: &mut [u8], l
 // One byte more than a file may have, so that a longer one is told.
 const ROOM: usize = LONGEST_FILE + 1;
 
+// Bytes of standard input that are read at once.
+const READ_AHEAD: usize = 4096;
+
 // The longest path and a CR.
 const LONGEST_COMMAND: usize = 4096;
 
@@ -135,7 +138,7 @@ pub fn run() {
     let mut state_cells = [0u64; STATE_CELLS];
     let mut work_cells = [0u64; WORK_CELLS];
     let mut room_bytes = [0u8; ROOM];
-    let mut keys_bytes = [0u8; 4096];
+    let mut keys_bytes = [0u8; READ_AHEAD];
     let mut line_bytes = [0u8; LONGEST_COMMAND];
     let state: &mut [u64] = &mut state_cells;
     let work: &mut [u64] = &mut work_cells;

@@ -2,6 +2,7 @@
 use crate::print::number;
 use crate::print::say;
 use linker::STATE_CELLS;
+use linker::WORK_CELLS;
 
 fn same(a: &[u64; STATE_CELLS], b: &[u64; STATE_CELLS]) -> bool {
     let mut i = 0;
@@ -36,10 +37,13 @@ pub fn tell_state(before: &[u64; STATE_CELLS], after: &[u64; STATE_CELLS]) {
     say(b"; state changed\n");
 }
 
+// One cell more than work memory has, so that what stands behind it is seen too.
+pub const MORE_CELLS: usize = WORK_CELLS + 1;
+
 // Where the cells from `from` on that have one value end.
-fn run_end(cells: &[u64; 65537], from: usize, value: u64) -> usize {
+fn run_end(cells: &[u64; MORE_CELLS], from: usize, value: u64) -> usize {
     let mut i = from;
-    while i < 65537 {
+    while i < MORE_CELLS {
         if cells[i] != value {
             return i;
         }
@@ -49,13 +53,13 @@ fn run_end(cells: &[u64; 65537], from: usize, value: u64) -> usize {
 }
 
 // Cells that were all zero, and are so still.
-pub fn are_zero(cells: &[u64; 65537]) -> bool {
-    run_end(cells, 0, 0) == 65537
+pub fn are_zero(cells: &[u64; MORE_CELLS]) -> bool {
+    run_end(cells, 0, 0) == MORE_CELLS
 }
 
 // Of cells that were all 5 the first `size` were lent as work memory.
-pub fn tell_work(cells: &[u64; 65537], size: usize) {
-    if run_end(cells, 0, 5) == 65537 {
+pub fn tell_work(cells: &[u64; MORE_CELLS], size: usize) {
+    if run_end(cells, 0, 5) == MORE_CELLS {
         say(b"; work untouched");
         return;
     }
@@ -63,7 +67,7 @@ pub fn tell_work(cells: &[u64; 65537], size: usize) {
         say(b"; work not zero");
         return;
     }
-    if run_end(cells, size, 5) != 65537 {
+    if run_end(cells, size, 5) != MORE_CELLS {
         say(b"; work zero, cells behind it changed");
         return;
     }

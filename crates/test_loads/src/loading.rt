@@ -1,4 +1,5 @@
 // LOAD, with memory of any length.
+use crate::cells::MORE_CELLS;
 use crate::cells::are_zero;
 use crate::cells::tell_state;
 use crate::cells::tell_work;
@@ -6,8 +7,10 @@ use crate::print::answer;
 use crate::print::number;
 use crate::print::say;
 use linker::STATE_CELLS;
+use linker::WORK_CELLS;
 use linker::lnk100_load;
 use rules::answer::LoadAnswer;
+use rules::limits::LONGEST_FILE;
 use test_script::between;
 
 // LOAD with the first cells as work memory.
@@ -21,9 +24,9 @@ fn lend_work(state: &mut [u64], work: &mut [u64], size: usize, file: &[u8]) -> L
 // LOAD with the first cells as the state.
 fn lend_state(cells: &mut [u64], size: usize, work: &mut [u64], file: &[u8]) -> LoadAnswer {
     if cells.len() < size {
-        return lend_work(cells, work, 65536, file);
+        return lend_work(cells, work, WORK_CELLS, file);
     }
-    lend_work(&mut cells[..size], work, 65536, file)
+    lend_work(&mut cells[..size], work, WORK_CELLS, file)
 }
 
 fn tell_answer(number_of_answer: u64, line: u64, rounds: u64) {
@@ -35,26 +38,29 @@ fn tell_answer(number_of_answer: u64, line: u64, rounds: u64) {
 // LOAD with the first `size` of cells that are all 5 as work memory.
 pub fn load(state: &mut [u64; STATE_CELLS], size: usize, file: &[u8]) {
     let before = *state;
-    let mut work = [5u64; 65537];
+    let mut work = [5u64; MORE_CELLS];
     let a = lend_work(state, &mut work, size, file);
     tell_answer(a.number, a.line, a.rounds);
     tell_work(&work, size);
     tell_state(&before, state);
 }
 
+// One byte more than a file may have.
+const MORE_BYTES: usize = LONGEST_FILE + 1;
+
 // LOAD of so many line ends.
 pub fn load_blank(state: &mut [u64; STATE_CELLS], count: usize) {
-    let blank = [10u8; 65537];
-    load(state, 65536, between(&blank, 0, count));
+    let blank = [10u8; MORE_BYTES];
+    load(state, WORK_CELLS, between(&blank, 0, count));
 }
 
 // LOAD with the first `size` of cells that are all zero as the state.
 pub fn load_into(size: usize, file: &[u8]) {
-    let mut cells = [0u64; 65537];
-    let mut work = [5u64; 65537];
+    let mut cells = [0u64; MORE_CELLS];
+    let mut work = [5u64; MORE_CELLS];
     let a = lend_state(&mut cells, size, &mut work, file);
     tell_answer(a.number, a.line, a.rounds);
-    tell_work(&work, 65536);
+    tell_work(&work, WORK_CELLS);
     if are_zero(&cells) {
         say(b"; state same\n");
         return;

@@ -12,6 +12,7 @@ use crate::loading::load_blank;
 use crate::loading::load_into;
 use crate::print::say;
 use linker::STATE_CELLS;
+use linker::WORK_CELLS;
 use test_script::between;
 use test_script::byte;
 use test_script::file_end;
@@ -23,9 +24,9 @@ fn keep(state: &[u64; STATE_CELLS], kept: &mut [u64; STATE_CELLS]) {
     *kept = *state;
 }
 
-fn damage(state: &mut [u64; STATE_CELLS], at: u64) {
+fn damage(state: &mut [u64; STATE_CELLS], at: usize) {
     if at < STATE_CELLS {
-        state[at as usize] = 7;
+        state[at] = 7;
     }
 }
 
@@ -44,7 +45,7 @@ fn obey(line: &[u8], state: &mut [u64; STATE_CELLS], kept: &mut [u64; STATE_CELL
         b'M' => list_memory(state),
         b'K' => keep(state, kept),
         b'G' => keep(kept, state),
-        b'D' => damage(state, number_of(operand(line))),
+        b'D' => damage(state, number_of(operand(line)) as usize),
         b'#' => {}
         b'\n' => {}
         _ => say(b"?\n"),
@@ -54,7 +55,7 @@ fn obey(line: &[u8], state: &mut [u64; STATE_CELLS], kept: &mut [u64; STATE_CELL
 // Work memory of the length that is asked for, or of the right one.
 fn load_lines(digits: &[u8], state: &mut [u64; STATE_CELLS], file: &[u8]) {
     if digits.len() == 0 {
-        load(state, 65536, file);
+        load(state, WORK_CELLS, file);
         return;
     }
     load(state, number_of(digits) as usize, file);
