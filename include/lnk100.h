@@ -17,8 +17,8 @@
  * test `number` first. `line` is the file's line, from 1, where lnk100_load is refused by 6 to 14, and else 0.
  *
  * Each call's answer, and every lent cell and byte afterwards, is what the call's definition in crates/rules/specs/Calls.antt gives:
- * that is proved of the functions that these declarations name. Nothing checks the declarations themselves against the Rattle
- * source, crates/linker/src/lib.rt. */
+ * that is proved of the functions that these declarations name. scripts/declarations.sh, with which the gate begins, holds the text of
+ * the declarations and constants to the Rattle source: fields and parameters in order with their names and types, and each number. */
 #ifndef LNK100_H
 #define LNK100_H
 

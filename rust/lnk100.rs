@@ -1,12 +1,13 @@
 //! A safe wrapper of the proved linker's calls, over `target/staticlib/liblinker.a` (`rt staticlib linker`). It owns the memory that
 //! the calls are lent and holds no linking logic. `examples/link.rs` is a whole program.
 //!
-//! What each call promises stands in include/lnk100.h. The declarations here repeat that file; nothing checks them against the Rattle
-//! source. `Linker::load` needs 490 KB of stack, each other call 8 KB.
+//! What each call promises stands in include/lnk100.h. `scripts/declarations.sh`, with which the gate begins, holds the declarations and
+//! constants here, as those there, to the Rattle source. `Linker::load` needs 490 KB of stack, each other call 8 KB.
 #![allow(dead_code)]
 
 pub const STATE_CELLS: usize = 8708;
 pub const WORK_CELLS: usize = 65_536;
+pub const FILE_BYTES: usize = 65_536;
 pub const IMAGE_BYTES: usize = 45_061;
 
 /// What `high` and the reference of `undefined` are where there is no address.
@@ -50,14 +51,14 @@ mod calls {
     pub struct End { pub number: u64, pub line: u64, pub length: u64 }
 
     extern "C" {
-        pub fn lnk100_load(s: *mut u64, n: usize, w: *mut u64, m: usize, f: *const u8, k: usize) -> Load;
-        pub fn lnk100_force(s: *mut u64, n: usize, name: *const u8, k: usize) -> Call;
-        pub fn lnk100_base(s: *mut u64, n: usize, address: u64) -> Call;
-        pub fn lnk100_reset(s: *mut u64, n: usize) -> Call;
-        pub fn lnk100_memory(s: *const u64, n: usize) -> Memory;
-        pub fn lnk100_symbols(s: *const u64, n: usize, index: u64) -> Symbol;
-        pub fn lnk100_undefined(s: *const u64, n: usize, index: u64) -> Undefined;
-        pub fn lnk100_end(s: *mut u64, n: usize, out: *mut u8, k: usize) -> End;
+        pub fn lnk100_load(state: *mut u64, state_len: usize, work: *mut u64, work_len: usize, file: *const u8, file_len: usize) -> Load;
+        pub fn lnk100_force(state: *mut u64, state_len: usize, name: *const u8, name_len: usize) -> Call;
+        pub fn lnk100_base(state: *mut u64, state_len: usize, address: u64) -> Call;
+        pub fn lnk100_reset(state: *mut u64, state_len: usize) -> Call;
+        pub fn lnk100_memory(state: *const u64, state_len: usize) -> Memory;
+        pub fn lnk100_symbols(state: *const u64, state_len: usize, index: u64) -> Symbol;
+        pub fn lnk100_undefined(state: *const u64, state_len: usize, index: u64) -> Undefined;
+        pub fn lnk100_end(state: *mut u64, state_len: usize, out: *mut u8, out_len: usize) -> End;
     }
 }
 
