@@ -1,7 +1,8 @@
 #!/usr/bin/env bash
-# Builds the static library and the C and the Rust example over it. Both link document 01's MAIN and library, and the manual's VCADD,
-# and are held to each other in what they print and write; the first image is also held to document 01's P3, the second to the words
-# of source 000's Figure 4-3. Then both must tell a file that is refused, one that cannot be read and one that cannot be written.
+# Builds the static library and the C and the Rust example over it, and holds what both print and write to the papers. They link
+# document 01's MAIN and library (P1: rounds, P2: symbols, P3: the image) and the LNK100 manual's VCADD (source 000, Figure 4-3: the
+# words). Then both must tell a file that is refused, with its number and its line, one that cannot be read and one that cannot be
+# written.
 set -eu
 cd "$(dirname "$0")/.."
 mkdir -p target/examples
@@ -9,19 +10,19 @@ rt staticlib linker > target/examples/log 2>&1 || { cat target/examples/log; exi
 gcc -std=c11 -Wall -Wextra -Werror -O2 -Iinclude examples/link.c target/staticlib/liblinker.a -o target/examples/link_c
 rustc --edition 2021 -D warnings -O examples/link.rs -o target/examples/link_rust -C link-arg=target/staticlib/liblinker.a
 
-# Runs both examples, which must end with the status, and prints what they say once.
+# Runs both examples, which must end with the status and print what standard input has.
 both() { # STATUS IMAGE FILE ..
     status=$1 image=$2
     shift 2
+    cat > target/examples/wanted
     for lang in c rust; do
-        rm -f target/examples/image
+        rm -f target/examples/image "target/examples/image.$lang"
         ended=0
         "target/examples/link_$lang" "$image" "$@" > "target/examples/said.$lang" || ended=$?
         [ "$ended" = "$status" ] || { echo "examples: $lang ended with $ended and not $status"; exit 1; }
+        diff target/examples/wanted "target/examples/said.$lang" || { echo "examples: $lang does not say what is wanted (<)"; exit 1; }
         [ ! -f target/examples/image ] || mv target/examples/image "target/examples/image.$lang"
     done
-    cmp target/examples/said.c target/examples/said.rust
-    cat target/examples/said.c
 }
 
 # Both images must be the bytes that standard input has in hex.
@@ -32,7 +33,15 @@ bytes() {
     done
 }
 
-both 0 target/examples/image examples/objects/MAIN.OBJ examples/objects/LIB.OBJ
+# MAIN has no library, so its load has no rounds.
+both 0 target/examples/image examples/objects/MAIN.OBJ examples/objects/LIB.OBJ <<'END'
+examples/objects/MAIN.OBJ: loaded, 0 rounds
+examples/objects/LIB.OBJ: loaded, 3 rounds
+MAIN   000000
+SQ     000003
+LOW    000004
+target/examples/image: 60 bytes
+END
 bytes <<'END'
 57 0000 0001 0002 0003 0004
 57 0001 0000 0000 0000 0002
@@ -41,14 +50,39 @@ bytes <<'END'
 57 0004 0007 0007 0007 0007
 45 0004 0000
 END
-both 0 target/examples/image examples/objects/VCADD.OBJ
+
+# Eight words: 11 bytes for each, and 5.
+both 0 target/examples/image examples/objects/VCADD.OBJ <<'END'
+examples/objects/VCADD.OBJ: loaded, 0 rounds
+VCADD  000000
+target/examples/image: 93 bytes
+END
 {
     printf '57 %04x %04x %04x %04x %04x\n' 0 16384 0 0 48 1 16452 0 0 48 2 648 0 18948 0 3 576 0 0 48 \
         4 581 43008 256 48 5 653 32768 18948 0 6 584 429 0 112 7 0 224 0 0
     echo 45 0007 0000
 } | bytes
-both 1 target/examples/image examples/link.c
-both 1 target/examples/image examples
-both 1 target/examples/none/image examples/objects/MAIN.OBJ
-both 2 target/examples/image
-echo "examples: C and Rust agree, and the images are document 01's P3 and source 000's Figure 4-3"
+
+# The first line of a C program is no header: LINE, 6.
+both 1 target/examples/image examples/link.c <<'END'
+examples/link.c: refused by 6 at line 1
+END
+# An entry of MAIN twice: DUPLICATE, 13, at the TITLE line, as in docs/MANUAL.md.
+both 1 target/examples/image examples/objects/MAIN.OBJ examples/objects/MAIN.OBJ <<'END'
+examples/objects/MAIN.OBJ: loaded, 0 rounds
+examples/objects/MAIN.OBJ: refused by 13 at line 1
+END
+both 1 target/examples/image examples <<'END'
+examples: cannot be read
+END
+# Without the library SQ is undefined.
+both 1 target/examples/none/image examples/objects/MAIN.OBJ <<'END'
+examples/objects/MAIN.OBJ: loaded, 0 rounds
+MAIN   000000
+SQ     000000 U
+target/examples/none/image: cannot be written
+END
+both 2 target/examples/image <<'END'
+usage: link IMAGE FILE ..
+END
+echo "examples: C and Rust say what the papers give, and the images are document 01's P3 and source 000's Figure 4-3"
