@@ -1,10 +1,11 @@
--- A slice filled from its front: the cells below i are those wanted.
+-- A slice filled from its front: the cells below i are those wanted, or zero.
 use Prim.Native.Nat.{ℕ, suc, _+_, _≤_, _<_}
 use native.Mathlib.Omega.{arith}
 use native.Mathlib.Numerals.{add-one}
 use mathlib.Core.List.{List, _++_, _∷_, []}
 use mathlib.Core.Path.{_≡_, refl, sym, ap, ap₂, _∙_}
-use lib.ListN.{length, getD, take, set, length-set, replicate, length-replicate, getD-replicate}
+use lib.ListN.{length, getD, take, drop, set, length-set, replicate}
+use borrow.Author.Fill.{fill-more}
 use lib.Seq.{take-suc, take-suc-set, take-all}
 
 -- the first i cells are those of the list that is wanted
@@ -32,3 +33,28 @@ filled-step wanted cells i v f l e =
 pub filled-end : (wanted cells : List ℕ) (i : ℕ) → Filled wanted cells i → length wanted ≤ i → cells ≡ wanted
 filled-end wanted cells i f l =
     sym (take-all i cells (omega (arith, f .size))) ∙ f .front ∙ take-all i wanted l
+
+-- ---- cleared: the first i of n cells are zero, and the rest is as it was
+
+pub record Cleared (before : List ℕ) (n : ℕ) (cells : List ℕ) (i : ℕ) : Type 0 where
+  pub within : i ≤ n
+  pub room : n ≤ length before
+  pub size : length cells ≡ length before
+  pub is : cells ≡ replicate i 0 ++ drop i before
+
+pub cleared-start : (before : List ℕ) (n : ℕ) → n ≤ length before → Cleared before n before 0
+cleared-start before n h = record { within = omega arith; room = h; size = refl; is = refl }
+
+pub cleared-step : (before : List ℕ) (n : ℕ) (cells : List ℕ) (i : ℕ) → Cleared before n cells i → i < n → Cleared before n (set cells i 0) (i + 1)
+cleared-step before n cells i f l =
+    record {
+      within = omega arith;
+      room = f .room;
+      size = length-set cells i 0 ∙ f .size;
+      is = ap (λ (c : List ℕ). set c i 0) (f .is) ∙ fill-more i 0 before (omega (arith, f .room));
+    }
+
+pub cleared-end : (before : List ℕ) (n : ℕ) (cells : List ℕ) (i : ℕ) → Cleared before n cells i → n ≤ i → cells ≡ replicate n 0 ++ drop n before
+cleared-end before n cells i f l =
+    let last : i ≡ n = omega (arith, f .within) in
+    f .is ∙ ap (λ (k : ℕ). replicate k 0 ++ drop k before) last

@@ -1,6 +1,8 @@
 // Lent cells as a whole: copied, and cleared.
+ghost use Prim.Native.Nat.{_≤_};
+ghost use mathlib.Core.List.{_++_};
 ghost use mathlib.Core.Path.{_≡_};
-ghost use lib.ListN.{length, replicate};
+ghost use lib.ListN.{length, drop, replicate};
 
 // All cells of one slice into another of the same length. The target's length is counted: where that is an array's, the compiler
 // knows it, and sees that what the array held before is never read.
@@ -16,11 +18,11 @@ pub fn copy(source: &[u64], target: &mut [u64])
     }
 }
 
-// Zero in every cell.
-pub fn clear(target: &mut [u64])
-    ensures { λ r. ⌜ now (target .exit) ≡ replicate (length (now (target .entry))) 0 ⌝ }
+// Zero in the first n cells.
+pub fn clear(target: &mut [u64], n: usize)
+    requires { ⌜ n ≤ length (now target) ⌝ }
+    ensures { λ r. ⌜ now (target .exit) ≡ replicate n 0 ++ drop n (now (target .entry)) ⌝ }
 {
-    let n = target.len();
     let mut i = 0;
     while i < n {
         target[i] = 0;

@@ -10,10 +10,10 @@ use tables::cells::PART_ROOM;
 ghost use mathlib.Core.Path.{_≡_};
 ghost use lib.ListN.{length};
 ghost use lib.Dec.{eqb};
+ghost use Rattle.rules.specs.Limits.{workSize};
 ghost use Rattle.rules.specs.Calls.{load, workAfter, reset, base, force, end, memory, symbols, undefined};
 ghost use Rattle.state.specs.Layout.{lent};
 ghost use Rattle.state.specs.Promise.{Called, Ended};
-ghost use Rattle.loading.specs.Work.{workSize};
 
 // The fixed lengths of state and work memory.
 pub const STATE_CELLS: usize = SIZE;

@@ -1,10 +1,11 @@
 -- Each way that LOAD can end.
 use Prim.Native.Nat.{ℕ, _≤_, _<_}
 use mathlib.Core.Bool.{Bool, true, false, cond, not}
-use mathlib.Core.List.{List}
+use native.Mathlib.Omega.{arith}
+use mathlib.Core.List.{List, _++_, append-nil}
 use mathlib.Core.Logic.{_≢_}
 use mathlib.Core.Path.{_≡_, refl, sym, ap, subst, _∙_}
-use lib.ListN.{length, replicate}
+use lib.ListN.{length, drop, replicate, drop-of-length-le}
 use lib.Dec.{eqb, ltb}
 use borrow.Author.Tests.{eq-eqb, ne-eqb, lt-ltb, le-ltb}
 use Rattle.rules.specs.Reading.{Item, readingOf, itemsOf}
@@ -106,11 +107,15 @@ module _ (cells : List ℕ) (work file : List ℕ) (a : LoadAnswer) (after : Lis
   unfolding load
   load-whole e d = rw (eq-eqb (length work) 65536 e) d
 
+-- clearing as many cells as there are leaves nothing
+cleared-whole : (n : ℕ) (used : List ℕ) → length used ≤ n → replicate n 0 ++ drop n used ≡ replicate n 0
+cleared-whole n used h = ap (λ (l : List ℕ). replicate n 0 ++ l) (drop-of-length-le used {i = n} h) ∙ append-nil (replicate n 0)
+
 pub work-kept : (work : List ℕ) → length work ≢ 65536 → work ≡ workAfter 65536 work
 unfolding workAfter
 work-kept work z = rw (ne-eqb (length work) 65536 z)
 
 -- `used` is work memory after the load
-pub work-cleared : (work used after : List ℕ) → length work ≡ 65536 → length used ≡ length work → after ≡ replicate (length used) 0 → after ≡ workAfter 65536 work
+pub work-cleared : (work used after : List ℕ) → length work ≡ 65536 → length used ≡ length work → after ≡ replicate 65536 0 ++ drop 65536 used → after ≡ workAfter 65536 work
 unfolding workAfter
-work-cleared work used after e same p = rw (eq-eqb (length work) 65536 e) (p ∙ ap (λ n. replicate n 0) (same ∙ e))
+work-cleared work used after e same p = rw (eq-eqb (length work) 65536 e) (p ∙ cleared-whole 65536 used (omega arith))

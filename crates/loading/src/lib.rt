@@ -20,7 +20,7 @@ ghost use Prim.Native.Nat.{_≤_};
 ghost use mathlib.Core.Path.{_≡_};
 ghost use lib.ListN.{length};
 ghost use lib.Dec.{eqb};
-ghost use Rattle.rules.specs.Limits.{longestFile};
+ghost use Rattle.rules.specs.Limits.{longestFile, workSize};
 ghost use Rattle.rules.specs.Load.{walked, walkFrom, loadFile};
 ghost use Rattle.rules.specs.Calls.{loadAnswer, loadOutcome, loadLent, load as load-outcome, workAfter};
 ghost use Rattle.rules.proofs.TestLaws.{Every};
@@ -29,7 +29,6 @@ ghost use Rattle.tables.specs.Tables.{mostCells, itemsIn};
 ghost use Rattle.state.specs.Layout.{lent, decode};
 ghost use Rattle.state.specs.Good.{Good};
 ghost use Rattle.state.specs.Promise.{Called};
-ghost use Rattle.loading.specs.Work.{workSize};
 
 // The fixed length of work memory, which holds the parts of a file's modules.
 const WORK_CELLS: usize = PART_ROOM;
@@ -107,6 +106,6 @@ pub fn load(state: &mut [u64], work: &mut [u64], file: &[u8]) -> LoadAnswer
         return answer(BUFFER, 0, 0);
     }
     let a = load_tested(state, work, file);
-    clear(work);
+    clear(work, WORK_CELLS);
     a
 }

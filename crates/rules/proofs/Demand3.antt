@@ -2,10 +2,10 @@
 use Prim.Native.Nat.{ℕ, zero, suc, _<_}
 use native.Mathlib.Omega.{arith}
 use mathlib.Core.Bool.{Bool, true, false, not, _&&_, _||_, and-true, and-false, or-false, or-comm}
-use mathlib.Core.List.{List, _∷_, _++_}
+use mathlib.Core.List.{List, [], _∷_, _++_}
 use mathlib.Core.Logic.{⊎-elim}
 use mathlib.Core.Option.{some}
-use mathlib.Core.Path.{_≡_, refl, sym, _∙_}
+use mathlib.Core.Path.{_≡_, refl, sym, ap, _∙_}
 use lib.ListN.{length, getElem?}
 use lib.Dec.{eqb, leb}
 use borrow.Author.Tests.{eqb-true, eqb-false, not-true}
@@ -14,9 +14,10 @@ use Rattle.rules.specs.Reading.{Module, Item, section, itemsOf}
 use Rattle.rules.specs.State.{Symbol, State, isDefined, isUndefined, differentNames, soundSymbol, sound}
 use Rattle.rules.specs.Placing.{joined, placed, twice}
 use Rattle.rules.specs.Search.{ModuleSet, noModules, withModule}
-use Rattle.rules.specs.Load.{Walk, walking, accepted, place, entryNames, isNeeded, takes, searched, sectionNames, progress, walkItem, walkItems, walkFrom}
-use Rattle.rules.specs.Calls.{holding, load}
-use Rattle.rules.specs.Demand.{allModules, isEntry, isExternal, entryOf, externalOf, Sufficient, Contains, OneMore, SameSet, LeastSufficient}
+use Rattle.rules.specs.Load.{Walk, walking, accepted, place, entryNames, isNeeded, takes, searched, sectionNames, Progress, progress, walkItem, walkItems, walkFrom}
+use Rattle.rules.specs.Calls.{now, holding, Outcome, load}
+use Rattle.rules.specs.declared.answer.LoadAnswer.{LoadAnswer}
+use Rattle.rules.specs.Demand.{allModules, isEntry, isExternal, entryOf, externalOf, Sufficient, Contains, OneMore, SameSet, LeastSufficient, TakesLeast, LeastAtEach}
 use Rattle.rules.proofs.BoolLaws.{never, or-on, or-off, or-left-comm, and-on, eqb-same, any-at, any-in}
 use Rattle.rules.proofs.SearchLaws.{search-keeps, search-settled}
 use Rattle.rules.proofs.TableLaws.{not-both, defined-joined, undefined-joined, different-joined}
@@ -229,15 +230,31 @@ sound-different s h =
     let b = and-on (all soundSymbol (s .symbols)) _ a .1 in
     and-on (differentNames (s .symbols)) _ b .0
 
--- "if the load is accepted, take any library section of the file": w is the walk at its LSB header
-pub demand-3 : (s : State) (file : List ℕ) → sound s ≡ true → load (holding s) true file .answer .number ≡ 0 →
+-- "if the load is accepted, take any library section of the file"
+section-taken : (s : State) (file : List ℕ) → sound s ≡ true → load (holding s) true file .answer .number ≡ 0 →
     (before after : List Item) (line : ℕ) (ms : List Module) → itemsOf file ≡ before ++ (section line ms ∷ after) →
-    let w = walkFrom s before .walk in LeastSufficient (w .state .symbols) ms (searched ms w .taken)
+    TakesLeast (walkFrom s before .walk) ms (walkFrom s (before ++ (section line ms ∷ [])) .walk)
 unfolding walkItems walkItem
-demand-3 s file good done before after line ms e =
+section-taken s file good done before after line ms e =
     let p = walkFrom s before in
     let end = rw (e, items-append) at (load-accepted s file done .0) in
     let there = items-accepted (walkItem p (section line ms)) after end in
     let passed = section-accepted p line ms there in
     let different = items-different (progress (walking s) 0) before (sound-different s good) in
-    section-least ms (p .walk) (passed .2) different (rw (passed .1) at there)
+    record {
+      least = section-least ms (p .walk) (passed .2) different (rw (passed .1) at there);
+      goes-on =
+          ap (λ (q : Progress). q .walk) (items-append (progress (walking s) 0) before (section line ms ∷ []))
+          ∙ ap (λ (w : Walk). searched ms w .now) (passed .1);
+    }
+
+pub demand-3 : (s t : State) (file : List ℕ) → sound s ≡ true → load (holding s) true file .answer .number ≡ 0 →
+    load (holding s) true file .left ≡ now t → LeastAtEach s file t
+demand-3 s t file good done left =
+    record {
+      sections = section-taken s file good done;
+      ends = now-same (sym left ∙ ap (λ (o : Outcome LoadAnswer). o .left) (load-accepted s file done .1));
+    }
+  where
+    now-same : {a b : State} → now a ≡ now b → a ≡ b
+    now-same e = cc

@@ -8,8 +8,8 @@ use mathlib.Core.Path.{_≡_, refl, ap}
 use lib.ListN.{length}
 use lib.Dec.{eqb}
 use borrow.Author.Tests.{eqb-false}
-use Rattle.rules.specs.Search.{ModuleSet, Found, found, roundMore, round, rounds}
-use Rattle.rules.proofs.SearchLaws.{count, count-most, round-took}
+use Rattle.rules.specs.Search.{ModuleSet, Found, found, roundMore, round, rounds, count}
+use Rattle.rules.proofs.SearchLaws.{count-most, round-took}
 
 -- after a round that took n, the end or more rounds
 more-same : {X : Type 0} (n : ℕ) (end : Found X) {p q : Found X} → (n ≢ 0 → p ≡ q) →

@@ -16,7 +16,7 @@ use Rattle.rules.specs.Placing.{codeCount, placed, twice}
 use Rattle.rules.specs.Search.{ModuleSet, noModules, withModule}
 use Rattle.rules.specs.Load.{Walk, refusal, walk, walking, accepted, place, takes, searched, sectionNames, testSection, Progress, progress, walkItem, walkItems}
 use Rattle.rules.specs.Calls.{holding, load, reset, asBefore, now}
-use Rattle.rules.specs.History.{Call, loading, forcing, basing, resetting, ending, stateAfter, called, calledAll, chosen, placedBy, placedFrom, codeCounts, countPlaced, countSince}
+use Rattle.rules.specs.History.{Call, loading, forcing, basing, resetting, askingHigh, listing, listingUndefined, ending, workFits, leftBy, stateAfter, called, calledAll, chosen, placedBy, placedFrom, codeCounts, countPlaced, countAfter, countSince}
 use Rattle.rules.proofs.TestLaws.{Every, every-found, between-low}
 use Rattle.rules.proofs.BoolLaws.{cond-cases, never, never-none}
 use Rattle.rules.proofs.SearchLaws.{search-keeps}
@@ -137,29 +137,40 @@ grown-items (i ∷ is) p g size h =
 
 -- ---- along calls
 
-load-grown : (s : State) (file : List ℕ)
-    → length (s .words) ≡ 4096 → Grown (countPlaced s file) s (called s (loading file))
-unfolding called countPlaced stateAfter
-load-grown s file size = go (load-ends s true file)
+-- the same of a load whose work memory fits or not
+abbrev countLoaded : State → Bool → List ℕ → ℕ
+countLoaded s fits file =
+    cond (eqb (load (holding s) fits file .answer .number) 0) (codeCounts (placedFrom (progress (walking s) 0) (itemsOf file))) 0
+
+abbrev loadedBy : State → Bool → List ℕ → State
+loadedBy s fits file = stateAfter s (load (holding s) fits file .left)
+
+load-grown : (s : State) (work file : List ℕ)
+    → length (s .words) ≡ 4096 → Grown (countPlaced s work file) s (called s (loading work file))
+unfolding called leftBy countPlaced stateAfter load
+load-grown s work file size = go (workFits work)
   where
-    go : Ending s (load (holding s) true file)
-        → Grown (countPlaced s file) s (called s (loading file))
-    go (done e) =
+    read : Ending s (load (holding s) true file) → Grown (countLoaded s true file) s (loadedBy s true file)
+    read (done e) =
         let d = load-accepted s file e in
         let g = grown-items (itemsOf file) (progress (walking s) 0) (items-sound file) size (d .0) in
         rw (eq-eqb (load (holding s) true file .answer .number) 0 e, d .1) g
-    go (ahead k _ _ l) =
+    read (ahead k _ _ l) =
         rw (ne-eqb (load (holding s) true file .answer .number) 0 (positive 1 5 _ k (omega arith)), l) (record { size = size; count = omega arith })
-    go (forFile k _ l) =
+    read (forFile k _ l) =
         rw (ne-eqb (load (holding s) true file .answer .number) 0 (positive 6 14 _ k (omega arith)), l) (record { size = size; count = omega arith })
+
+    go : (fits : Bool) → Grown (countLoaded s fits file) s (loadedBy s fits file)
+    go false = record { size = size; count = omega arith }
+    go true = read (load-ends s true file)
 
 counted-from : (cs : List Call) (n : ℕ) (s : State)
     → length (s .words) ≡ 4096 → placedWords (s .words) ≡ n → placedWords (calledAll s cs .words) ≡ countSince n s cs
-unfolding calledAll countSince called reset stateAfter
+unfolding calledAll countSince countAfter called leftBy reset stateAfter
 counted-from [] n s size e = e
-counted-from (loading file ∷ cs) n s size e =
-    let g = load-grown s file size in
-    counted-from cs (n + countPlaced s file) (called s (loading file)) (g .size) (omega (arith, g .count))
+counted-from (loading work file ∷ cs) n s size e =
+    let g = load-grown s work file size in
+    counted-from cs (n + countPlaced s work file) (called s (loading work file)) (g .size) (omega (arith, g .count))
 counted-from (forcing name ∷ cs) n s size e =
     let same = force-words s name in
     counted-from cs n (called s (forcing name)) (ap length same ∙ size) (ap placedWords same ∙ e)
@@ -167,6 +178,9 @@ counted-from (basing address ∷ cs) n s size e =
     let same = base-words s address in
     counted-from cs n (called s (basing address)) (ap length same ∙ size) (ap placedWords same ∙ e)
 counted-from (resetting ∷ cs) n s size e = counted-from cs 0 fresh fresh-size fresh-count
+counted-from (askingHigh ∷ cs) n s size e = counted-from cs n s size e
+counted-from (listing i ∷ cs) n s size e = counted-from cs n s size e
+counted-from (listingUndefined i ∷ cs) n s size e = counted-from cs n s size e
 counted-from (ending out ∷ cs) n s size e =
     let same = end-words s out in
     counted-from cs n (called s (ending out)) (ap length same ∙ size) (ap placedWords same ∙ e)

@@ -7,29 +7,10 @@ use mathlib.Core.Path.{_≡_}
 use lib.ListN.{length}
 use Rattle.rules.specs.Reading.{Item, free, section, itemsOf}
 use Rattle.rules.specs.State.{State}
-use Rattle.rules.specs.Load.{Walk, walking, accepted, place, takes, searched, Progress, progress, walkItem, walkItems}
+use Rattle.rules.specs.Load.{Walk, walking, accepted, place, takes, searched, Progress, progress, walkItem, walkItems, takenAt, takenIn, sectionsAt, sectionsIn}
 use Rattle.rules.specs.Calls.{holding, load}
-use Rattle.rules.proofs.SearchLaws.{count, search-rounds-most}
+use Rattle.rules.proofs.SearchLaws.{search-rounds-most}
 use Rattle.rules.proofs.WalkLaws.{section-accepted, items-accepted, load-accepted}
-
--- the modules that a section's search takes, where the walk stands there
-unfoldable pub takenAt : Walk → Item → ℕ
-takenAt w (free m) = 0
-takenAt w (section line ms) = count (searched ms w .taken) (length ms)
-
--- and all of them along a walk
-unfoldable pub takenIn : Progress → List Item → ℕ
-takenIn p [] = 0
-takenIn p (i ∷ is) = takenAt (p .walk) i + takenIn (walkItem p i) is
-
--- the sections of a file
-unfoldable pub sectionsAt : Item → ℕ
-sectionsAt (free m) = 0
-sectionsAt (section line ms) = 1
-
-unfoldable pub sectionsIn : List Item → ℕ
-sectionsIn [] = 0
-sectionsIn (i ∷ is) = sectionsAt i + sectionsIn is
 
 -- an item adds at most the modules it takes, and one where it is a section
 item-rounds : (p : Progress) (i : Item) → accepted (walkItem p i .walk) ≡ true →

@@ -18,6 +18,9 @@ use Rattle.rules.specs.Image as Image
 use Rattle.rules.specs.Calls as Calls
 use Rattle.rules.specs.Text.{bytes, sameText, numberOf, packName}
 use Rattle.rules.specs.State.{Symbol, symbol, Word, unplaced, plain, refers, Mark, unmarked, broken, frozen, fresh, undefinedOnly}
+use Rattle.rules.specs.Reading.{Module, Item, free, section, itemsOf}
+use Rattle.rules.specs.Search.{ModuleSet, noModules, Sweep, round}
+use Rattle.rules.specs.Load.{Walk, takes, place, searched, walkFrom}
 use Rattle.rules.specs.declared.answer.LoadAnswer.{LoadAnswer}
 use Rattle.rules.specs.Calls.{Outcome, Left, asBefore, now, holding, load, base, end}
 
@@ -134,11 +137,47 @@ wordsLinked =
     ∷ plain 0x0007_0007_0007_0007
     ∷ replicate 4091 unplaced
 
+-- the modules of the library, in order LOW, SQ, CUBE
+members : List Item → List Module
+members [] = []
+members (free m ∷ is) = members is
+members (section line ms ∷ is) = ms
+
+-- which of the three are in a set
+three : ModuleSet → List Bool
+three set = set 0 ∷ set 1 ∷ set 2 ∷ []
+
+sameFlags : List Bool → List Bool → Bool
+sameFlags [] [] = true
+sameFlags [] (b ∷ bs) = false
+sameFlags (a ∷ fs) [] = false
+sameFlags (a ∷ fs) (b ∷ bs) = cond a b (not b) && sameFlags fs bs
+
+-- a round over the library: the modules taken so far, how many in this round, and the next address behind it
+roundGives : Sweep Walk → List Bool → ℕ → ℕ → Bool
+roundGives r flags took next = sameFlags (three (r .taken)) flags && (eqb (r .took) took && eqb (r .now .state .next) next)
+
+-- SQ is taken at 2 in the first round, LOW at 4 in the second, nothing in the third, and CUBE never
+taken : Bool
+taken =
+    let ms = members (itemsOf library) in
+    let w = walkFrom fresh (itemsOf main) .walk in
+    let first = round takes place ms noModules w in
+    let second = round takes place ms (first .taken) (first .now) in
+    let third = round takes place ms (second .taken) (second .now) in
+    let found = searched ms w in
+    eqb (w .state .next) 2
+    && (roundGives first (false ∷ true ∷ false ∷ []) 1 4
+    && (roundGives second (true ∷ true ∷ false ∷ []) 1 5
+    && (roundGives third (true ∷ true ∷ false ∷ []) 0 5
+    && (sameFlags (three (found .taken)) (true ∷ true ∷ false ∷ []) && eqb (found .rounds) 3))))
+
 pub p1 : Bool
 p1 =
     answers (loadIn fresh (main ++ library)) 0 0 3
+    && (taken
     && (sameText (allWords (linked .words)) (allWords wordsLinked)
-    && (eqb (linked .next) 5 && not (State.isSymbol (named "CUBE") (linked .symbols))))
+    && (eqb (linked .next) 5 && not (State.isSymbol (named "CUBE") (linked .symbols)))))
 
 pub p2 : Bool
 p2 =
@@ -177,22 +216,24 @@ p6 =
     && (answers (loadIn fresh (oneWord "177777")) 0 0 0
     && (answers (loadIn fresh (oneWord "200000")) 6 4 0 && answers (loadIn fresh (oneWord "8")) 6 4 0))
 
--- BASE 4,095: one word fits, two are 9; at next address 4,096 a module without code loads
+-- BASE 4,095: one word fits and stands there, two are 9; at next address 4,096 a module without code loads
 pub p7 : Bool
 p7 =
     let s = baseAt 4095 fresh in
     let t = then s (oneWord "1") in
     answers (loadIn s (oneWord "1")) 0 0 0
+    && (sameText (allWords (t .words)) (allWords (replicate 4095 unplaced ++ (plain 0x0001_0000_0000_0000 ∷ [])))
     && (answers (loadIn s (coded "0 2 0 ***CODE\n0 0 0 0\n0 0 0 0\n")) 9 1 0
-    && (eqb (t .next) 4096 && answers (loadIn t (coded "")) 0 0 0))
+    && (eqb (t .next) 4096 && answers (loadIn t (coded "")) 0 0 0)))
 
--- BASE 0 after P1, then MAIN's words under another title and entry: 10, then any LOAD 3; nothing but the mark has changed
-pub p8 : Bool
-p8 =
+-- BASE 0 after P1, then MAIN's words under another title and entry: 10, then any LOAD, whatever its file is, 3; nothing but the mark
+-- has changed
+pub p8 : List ℕ → Bool
+p8 file =
     let s = baseAt 0 linked in
     let t = then s again in
     answers (loadIn s again) 10 1 0
-    && (sameState t (State.marked broken s) && (answers (loadIn t []) 3 0 0 && sameState (then t []) t))
+    && (sameState t (State.marked broken s) && (answers (loadIn t file) 3 0 0 && sameState (then t file) t))
 
 -- LOW twice in one library: 13, though nobody needs it
 pub p9 : Bool
@@ -204,6 +245,7 @@ p10 =
     answers (loadIn fresh (coded "12 1 ***FPB\n0 0 3\n0 0\n0 0\n")) 6 7 0
     && answers (loadIn fresh (coded "12 1 ***FPB\n0 0 2\n0 0\n0 0\n")) 0 0 0
 
-pub p-table : (p1 && (p2 && (p3 && (p4 && (p5 && (p6 && (p7 && (p8 && (p9 && p10))))))))) ≡ true
-unfolding main low sq cube library digit spaceless pairs hex tableNumbers named wordNumbers allWords markNumber sameState loadIn after then answers baseAt linked coded oneWord again wordsLinked isNumber p1 p2 p3 p4 p5 p6 p7 p8 p9 p10 Text.bytes Text.all Text.any Text.widenLine Text.cutLines Text.withoutEnd Text.linesOf Text.legalFront Text.startsField Text.widenField Text.addToFields Text.fieldsFrom Text.fieldsOf Text.octal Text.isNumber Text.numberOf Text.isName Text.packName Text.nameOf Text.upToZero Text.unpackName Text.isPacked Line.headers Line.rowIn Line.rowOf Line.markerIn Text.sameText Line.held Line.inBounds Line.readField Line.inFront Line.fit Line.said Line.readAs Line.recordShape Line.codeLine Line.entryLine Line.sayHeader Line.rowAt Line.firstText Line.headerLine Line.isOne Line.textAt Line.fieldsSay Line.lineOf Line.faultWithin Line.testBytes Line.lineAnswer Reading.atStart Reading.expect Reading.expectRecords Reading.recordDone Reading.expectSubs Reading.titleHeader Reading.enterModule Reading.leaveModule Reading.enterSection Reading.leaveSection Reading.countEntry Reading.countExternal Reading.titleStep Reading.libraryStep Reading.libraryEndStep Reading.headerStep Reading.closingStep Reading.entryStep Reading.externalStep Reading.parameterStep Reading.subStep Reading.stepOf Reading.unread Reading.moduleDone Reading.stepped Reading.ifComplete Reading.readLine Reading.readLines Reading.isHeader Reading.atEnd Reading.readingOf Reading.itemsOf State.noWords State.fresh State.isSymbol State.isDefined State.isUndefined State.positionOf State.undefinedOnly State.placedWords State.highestFrom State.highest State.high State.soundSymbol State.differentNames State.soundWord State.sound Placing.entriesIn Placing.externalsIn Placing.codeIn Placing.lengthIn Placing.countIn Placing.valueAt Placing.define Placing.mention Placing.defineAll Placing.mentionAll Placing.joined Placing.linked Placing.putAll Placing.noRoom Placing.overlaps Placing.badArgument Placing.badArguments Placing.outOfRange Placing.twice Placing.duplicates Placing.tableFull Placing.placingFault Placing.placed Search.noModules Search.withModule Search.visit Search.sweep Search.round Search.rounds Search.search Load.tryPlace Load.place Load.entryNames Load.isNeeded Load.takes Load.searched Load.sectionNames Load.testSection Load.walkItem Load.walkItems Load.walked Load.loadRead Load.loadFile Image.valueOf Image.completed Image.two Image.quarters Image.wordRecord Image.recordOf Image.recordsFrom Image.endRecord Image.imageOf Calls.workAfter Calls.shutBy Calls.loadState Calls.loadLent Calls.load Calls.forceState Calls.force Calls.baseState Calls.base Calls.reset Calls.memory Calls.symbolAt Calls.symbols Calls.undefinedAt Calls.undefined Calls.isBroken Calls.endState Calls.end
-p-table = refl
+-- the table; `file` is P8's
+pub p-table : (file : List ℕ) → (p1 && (p2 && (p3 && (p4 && (p5 && (p6 && (p7 && (p8 file && (p9 && p10))))))))) ≡ true
+unfolding members three sameFlags roundGives taken main low sq cube library digit spaceless pairs hex tableNumbers named wordNumbers allWords markNumber sameState loadIn after then answers baseAt linked coded oneWord again wordsLinked isNumber p1 p2 p3 p4 p5 p6 p7 p8 p9 p10 Text.bytes Text.all Text.any Text.widenLine Text.cutLines Text.withoutEnd Text.linesOf Text.legalFront Text.startsField Text.widenField Text.addToFields Text.fieldsFrom Text.fieldsOf Text.octal Text.isNumber Text.numberOf Text.isName Text.packName Text.nameOf Text.upToZero Text.unpackName Text.isPacked Line.headers Line.rowIn Line.rowOf Line.markerIn Text.sameText Line.held Line.inBounds Line.readField Line.inFront Line.fit Line.said Line.readAs Line.recordShape Line.codeLine Line.entryLine Line.sayHeader Line.rowAt Line.firstText Line.headerLine Line.isOne Line.textAt Line.fieldsSay Line.lineOf Line.faultWithin Line.testBytes Line.lineAnswer Reading.atStart Reading.expect Reading.expectRecords Reading.recordDone Reading.expectSubs Reading.titleHeader Reading.enterModule Reading.leaveModule Reading.enterSection Reading.leaveSection Reading.countEntry Reading.countExternal Reading.titleStep Reading.libraryStep Reading.libraryEndStep Reading.headerStep Reading.closingStep Reading.entryStep Reading.externalStep Reading.parameterStep Reading.subStep Reading.stepOf Reading.unread Reading.moduleDone Reading.stepped Reading.ifComplete Reading.readLine Reading.readLines Reading.isHeader Reading.atEnd Reading.readingOf Reading.itemsOf State.noWords State.fresh State.isSymbol State.isDefined State.isUndefined State.positionOf State.undefinedOnly State.placedWords State.highestFrom State.highest State.high State.soundSymbol State.differentNames State.soundWord State.sound Placing.entriesIn Placing.externalsIn Placing.codeIn Placing.lengthIn Placing.countIn Placing.valueAt Placing.define Placing.mention Placing.defineAll Placing.mentionAll Placing.joined Placing.linked Placing.putAll Placing.noRoom Placing.overlaps Placing.badArgument Placing.badArguments Placing.outOfRange Placing.twice Placing.duplicates Placing.tableFull Placing.placingFault Placing.placed Search.noModules Search.withModule Search.visit Search.sweep Search.round Search.rounds Search.search Load.tryPlace Load.place Load.entryNames Load.isNeeded Load.takes Load.searched Load.sectionNames Load.testSection Load.walkItem Load.walkItems Load.walked Load.loadRead Load.loadFile Image.valueOf Image.completed Image.two Image.quarters Image.wordRecord Image.recordOf Image.recordsFrom Image.endRecord Image.imageOf Calls.workAfter Calls.shutBy Calls.loadState Calls.loadLent Calls.load Calls.forceState Calls.force Calls.baseState Calls.base Calls.reset Calls.memory Calls.symbolAt Calls.symbols Calls.undefinedAt Calls.undefined Calls.isBroken Calls.endState Calls.end
+p-table file = refl

@@ -11,15 +11,10 @@ use mathlib.Core.Path.{_≡_, refl, sym, _∙_, ap}
 use lib.ListN.{length, getElem?}
 use lib.Dec.{eqb}
 use borrow.Author.Tests.{eqb-true, eqb-false, ne-eqb, not-false}
-use Rattle.rules.specs.Search.{ModuleSet, noModules, withModule, Sweep, Found, sweepOf, visit, sweep, round, rounds, search}
+use Rattle.rules.specs.Search.{ModuleSet, noModules, withModule, Sweep, Found, sweepOf, visit, sweep, round, rounds, search, count}
 use Rattle.rules.proofs.BoolLaws.{cond-cases, never-none, or-off, inside}
 
 -- ---- sets of modules
-
--- how many of the first n places are in a set
-unfoldable pub count : ModuleSet → ℕ → ℕ
-count t zero = 0
-count t (suc n) = cond (t n) 1 0 + count t n
 
 pub count-most : (t : ModuleSet) (n : ℕ) → count t n ≤ n
 unfolding count

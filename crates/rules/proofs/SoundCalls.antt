@@ -14,7 +14,7 @@ use Rattle.rules.specs.Placing.{mention, placingFault, placed}
 use Rattle.rules.specs.Search.{ModuleSet}
 use Rattle.rules.specs.Load.{Walk, refusal, walk, walking, accepted, tryPlace, place, takes, searched, testSection, Progress, progress, walkItem, walkItems, walkFrom}
 use Rattle.rules.specs.Calls.{Left, asBefore, now, holding, load, force, base, reset, end, withSymbols}
-use Rattle.rules.specs.History.{Call, loading, forcing, basing, resetting, ending, stateAfter, called}
+use Rattle.rules.specs.History.{Call, loading, forcing, basing, resetting, askingHigh, listing, listingUndefined, ending, workFits, leftBy, stateAfter, called}
 use Rattle.rules.proofs.TestLaws.{Every, every-found, all-cons, all-weaken}
 use Rattle.rules.proofs.BoolLaws.{cond-cases}
 use Rattle.rules.proofs.NameLaws.{pack-legal}
@@ -46,7 +46,7 @@ mention-most x (s ∷ t) =
 force-sound : (s : State) (name : List ℕ) → Sound s → Sound (stateAfter s (force (holding s) name .left))
 unfolding stateAfter
 force-sound s name h =
-    force-cases (λ o. Sound (stateAfter s (o .left))) s name (λ k. h) (λ _. h) λ legal room _.
+    force-cases (λ o. Sound (stateAfter s (o .left))) s name (λ k _. h) (λ _. h) λ legal room _.
     let x = packName name in
     let t = s .symbols in
     record {
@@ -61,7 +61,7 @@ force-sound s name h =
 base-sound : (s : State) (address : ℕ) → Sound s → Sound (stateAfter s (base (holding s) address .left))
 unfolding stateAfter
 base-sound s address h =
-    base-cases (λ o. Sound (stateAfter s (o .left))) s address (λ k. h) λ small.
+    base-cases (λ o. Sound (stateAfter s (o .left))) s address (λ k _. h) λ small.
     record {
       few = h .few;
       each = h .each;
@@ -73,7 +73,7 @@ base-sound s address h =
 
 end-sound : (s : State) (out : List ℕ) → Sound s → Sound (stateAfter s (end (holding s) out .call .left))
 unfolding stateAfter
-end-sound s out h = end-cases (λ o. Sound (stateAfter s (o .call .left))) s out (λ k. h) (λ _. marked-sound frozen s h)
+end-sound s out h = end-cases (λ o. Sound (stateAfter s (o .call .left))) s out (λ k _. h) (λ _. marked-sound frozen s h)
 
 all-unplaced : (n k : ℕ) → all (soundWord n) (replicate k unplaced) ≡ true
 unfolding all soundWord
@@ -95,6 +95,9 @@ fresh-sound =
       words = fresh-words;
       next = omega arith;
     }
+
+pub fresh-is-sound : sound fresh ≡ true
+fresh-is-sound = whole fresh fresh-sound
 
 -- ---- the walk
 
@@ -140,9 +143,10 @@ items-sound (i ∷ is) p g h =
 
 -- ---- LOAD
 
-load-sound : (s : State) (file : List ℕ) → Sound s → Sound (called s (loading file))
-unfolding called stateAfter
-load-sound s file h = go (load-ends s true file)
+load-sound : (s : State) (fits : Bool) (file : List ℕ) → Sound s → Sound (stateAfter s (load (holding s) fits file .left))
+unfolding stateAfter load
+load-sound s false file h = h
+load-sound s true file h = go (load-ends s true file)
   where
     go : Ending s (load (holding s) true file) → Sound (stateAfter s (load (holding s) true file .left))
     go (done e) =
@@ -152,9 +156,12 @@ load-sound s file h = go (load-ends s true file)
 
 -- "Demands 2 and 3 hold from every sound state": every call leaves one
 pub called-sound : (s : State) (c : Call) → sound s ≡ true → sound (called s c) ≡ true
-unfolding called reset stateAfter
-called-sound s (loading file) h = whole (called s (loading file)) (load-sound s file (facts s h))
+unfolding called leftBy reset stateAfter
+called-sound s (loading work file) h = whole (called s (loading work file)) (load-sound s (workFits work) file (facts s h))
 called-sound s (forcing name) h = whole (called s (forcing name)) (force-sound s name (facts s h))
 called-sound s (basing address) h = whole (called s (basing address)) (base-sound s address (facts s h))
-called-sound s resetting h = whole fresh fresh-sound
+called-sound s resetting h = fresh-is-sound
+called-sound s askingHigh h = h
+called-sound s (listing i) h = h
+called-sound s (listingUndefined i) h = h
 called-sound s (ending out) h = whole (called s (ending out)) (end-sound s out (facts s h))

@@ -1,16 +1,16 @@
 -- Demand 3, in the words of document 01's paragraph on it. A set of modules is told by their positions in the section.
 use Prim.Native.Nat.{ℕ, _+_, _<_}
 use mathlib.Core.Bool.{Bool, true, false, not, _&&_, _||_}
-use mathlib.Core.List.{List, [], _∷_}
+use mathlib.Core.List.{List, [], _∷_, _++_}
 use mathlib.Core.Path.{_≡_}
 use lib.ListN.{length}
 use lib.Dec.{eqb}
 use Rattle.rules.specs.Text.{any}
-use Rattle.rules.specs.Reading.{Module}
-use Rattle.rules.specs.State.{Symbol, isDefined, isUndefined}
+use Rattle.rules.specs.Reading.{Module, Item, section, itemsOf}
+use Rattle.rules.specs.State.{Symbol, State, isDefined, isUndefined}
 use Rattle.rules.specs.Placing.{externals}
 use Rattle.rules.specs.Search.{ModuleSet}
-use Rattle.rules.specs.Load.{entryNames}
+use Rattle.rules.specs.Load.{Walk, entryNames, searched, walkFrom}
 
 unfoldable pub allModules : ModuleSet
 allModules i = true
@@ -57,3 +57,16 @@ SameSet ms a b = (i : ℕ) → i < length ms → a i ≡ b i
 pub record LeastSufficient (table : List Symbol) (ms : List Module) (taken : ModuleSet) : Type 0 where
   pub sufficient : Sufficient table ms taken
   pub least : (set : ModuleSet) → Sufficient table ms set → ¬ SameSet ms set taken → Contains ms set taken × OneMore ms set taken
+
+-- a section with these modules on the way of a walk, which stands at w before it and at v behind it: "The modules taken there are
+-- those that the search above takes, begun from that table", and what this one search ends in is where the walk goes on
+pub record TakesLeast (w : Walk) (ms : List Module) (v : Walk) : Type 0 where
+  pub least : LeastSufficient (w .state .symbols) ms (searched ms w .taken)
+  pub goes-on : v ≡ searched ms w .now
+
+-- demand 3 of a load of this file from s that leaves t: "take any library section of the file", and "the state that the load answers
+-- is the one that this walk ends in"
+pub record LeastAtEach (s : State) (file : List ℕ) (t : State) : Type 0 where
+  pub sections : (before after : List Item) (line : ℕ) (ms : List Module) → itemsOf file ≡ before ++ (section line ms ∷ after) →
+      TakesLeast (walkFrom s before .walk) ms (walkFrom s (before ++ (section line ms ∷ [])) .walk)
+  pub ends : t ≡ walkFrom s (itemsOf file) .walk .state

@@ -1,35 +1,99 @@
--- Document 01, "The image": "Placed words always equal the sum of the CODE counts of all modules placed since the reset."
--- The calls that change a state, one after the other, and that sum.
+-- Calls in a row: what comes back of each, and the state that each leaves. Then document 01, "The image": "Placed words always equal
+-- the sum of the CODE counts of all modules placed since the reset."
 use Prim.Native.Nat.{ℕ, _+_}
-use mathlib.Core.Bool.{Bool, true, false, cond}
+use mathlib.Core.Bool.{Bool, true, false, cond, _||_}
 use mathlib.Core.List.{List, [], _∷_, _++_}
-use lib.Dec.{eqb}
+use lib.ListN.{length}
+use lib.Dec.{eqb, leb}
+use Rattle.rules.specs.Limits.{workSize}
 use Rattle.rules.specs.Reading.{Module, Item, free, section, itemsOf}
 use Rattle.rules.specs.State.{State, fresh}
 use Rattle.rules.specs.Placing.{codeCount}
 use Rattle.rules.specs.Search.{ModuleSet}
-use Rattle.rules.specs.Answers.{DONE}
+use Rattle.rules.specs.Answers.{DONE, BUFFER, DAMAGED, RESET, FROZEN, RANGE, TABLE, NAME, OUT}
 use Rattle.rules.specs.Load.{Progress, progress, walking, searched, testSection, walkItem}
-use Rattle.rules.specs.Calls.{Left, asBefore, now, holding, load, force, base, reset, end}
+use Rattle.rules.specs.Calls.{Lent, Left, asBefore, now, holding, workAfter, load, force, base, reset, memory, symbols, undefined, end}
+use Rattle.rules.specs.declared.answer.LoadAnswer.{LoadAnswer}
+use Rattle.rules.specs.declared.answer.CallAnswer.{CallAnswer}
+use Rattle.rules.specs.declared.answer.MemoryAnswer.{MemoryAnswer}
+use Rattle.rules.specs.declared.answer.SymbolAnswer.{SymbolAnswer}
+use Rattle.rules.specs.declared.answer.UndefinedAnswer.{UndefinedAnswer}
+use Rattle.rules.specs.declared.answer.EndAnswer.{EndAnswer}
 
--- a call on sound state memory, with work memory of the right length
+-- ---- calls in a row
+
+-- a call, with what it is lent besides state memory: LOAD work memory and a file, FORCE a name, BASE an address, SYMBOLS and
+-- UNDEFINED an index, END the output
 pub data Call : Type 0 where
-  loading : List ℕ → Call
+  loading : List ℕ → List ℕ → Call
   forcing : List ℕ → Call
   basing : ℕ → Call
   resetting : Call
+  askingHigh : Call
+  listing : ℕ → Call
+  listingUndefined : ℕ → Call
   ending : List ℕ → Call
+
+-- what comes back: the answer, and what was lent for writing besides state memory, as it is afterwards
+pub data Reply : Type 0 where
+  ofLoad : LoadAnswer → List ℕ → Reply
+  ofCall : CallAnswer → Reply
+  ofMemory : MemoryAnswer → Reply
+  ofSymbols : SymbolAnswer → Reply
+  ofUndefined : UndefinedAnswer → Reply
+  ofEnd : EndAnswer → List ℕ → Reply
+
+abbrev pub workFits : List ℕ → Bool
+workFits work = eqb (length work) workSize
+
+unfoldable pub replyTo : Lent → Call → Reply
+replyTo m (loading work file) = ofLoad (load m (workFits work) file .answer) (workAfter workSize work)
+replyTo m (forcing name) = ofCall (force m name .answer)
+replyTo m (basing address) = ofCall (base m address .answer)
+replyTo m resetting = ofCall (reset m .answer)
+replyTo m askingHigh = ofMemory (memory m)
+replyTo m (listing i) = ofSymbols (symbols m i)
+replyTo m (listingUndefined i) = ofUndefined (undefined m i)
+replyTo m (ending out) = ofEnd (end m out .call .answer) (end m out .output)
+
+-- the number of a reply
+unfoldable pub numberIn : Reply → ℕ
+numberIn (ofLoad r work) = r .number
+numberIn (ofCall r) = r .number
+numberIn (ofMemory r) = r .number
+numberIn (ofSymbols r) = r .number
+numberIn (ofUndefined r) = r .number
+numberIn (ofEnd r out) = r .number
+
+-- which numbers each call can answer, by "Given when" of the table of answers
+unfoldable pub canAnswer : Call → ℕ → Bool
+canAnswer (loading work file) k = leb k TABLE
+canAnswer (forcing name) k = leb k FROZEN || (eqb k TABLE || eqb k NAME)
+canAnswer (basing address) k = leb k FROZEN || eqb k RANGE
+canAnswer resetting k = leb k BUFFER
+canAnswer askingHigh k = leb k DAMAGED
+canAnswer (listing i) k = leb k DAMAGED
+canAnswer (listingUndefined i) k = leb k DAMAGED
+canAnswer (ending out) k = leb k RESET || eqb k OUT
+
+-- state memory as a call leaves it
+unfoldable pub leftBy : Lent → Call → Left
+leftBy m (loading work file) = load m (workFits work) file .left
+leftBy m (forcing name) = force m name .left
+leftBy m (basing address) = base m address .left
+leftBy m resetting = reset m .left
+leftBy m askingHigh = asBefore
+leftBy m (listing i) = asBefore
+leftBy m (listingUndefined i) = asBefore
+leftBy m (ending out) = end m out .call .left
 
 unfoldable pub stateAfter : State → Left → State
 stateAfter s asBefore = s
 stateAfter s (now t) = t
 
+-- the state that a call leaves, where it is lent the state s
 unfoldable pub called : State → Call → State
-called s (loading file) = stateAfter s (load (holding s) true file .left)
-called s (forcing name) = stateAfter s (force (holding s) name .left)
-called s (basing address) = stateAfter s (base (holding s) address .left)
-called s resetting = stateAfter s (reset (holding s) .left)
-called s (ending out) = stateAfter s (end (holding s) out .call .left)
+called s c = stateAfter s (leftBy (holding s) c)
 
 unfoldable pub calledAll : State → List Call → State
 calledAll s [] = s
@@ -55,15 +119,23 @@ codeCounts [] = 0
 codeCounts (m ∷ ms) = codeCount m + codeCounts ms
 
 -- the CODE counts of the modules that an accepted load places
-unfoldable pub countPlaced : State → List ℕ → ℕ
-countPlaced s file =
-    cond (eqb (load (holding s) true file .answer .number) DONE) (codeCounts (placedFrom (progress (walking s) 0) (itemsOf file))) 0
+unfoldable pub countPlaced : State → List ℕ → List ℕ → ℕ
+countPlaced s work file =
+    let answer = load (holding s) (workFits work) file .answer in
+    cond (eqb (answer .number) DONE) (codeCounts (placedFrom (progress (walking s) 0) (itemsOf file))) 0
+
+-- the sum after a call, n before it
+unfoldable pub countAfter : ℕ → State → Call → ℕ
+countAfter n s (loading work file) = n + countPlaced s work file
+countAfter n s (forcing name) = n
+countAfter n s (basing address) = n
+countAfter n s resetting = 0
+countAfter n s askingHigh = n
+countAfter n s (listing i) = n
+countAfter n s (listingUndefined i) = n
+countAfter n s (ending out) = n
 
 -- the sum since the last reset, after n from the calls before
 unfoldable pub countSince : ℕ → State → List Call → ℕ
 countSince n s [] = n
-countSince n s (loading file ∷ cs) = countSince (n + countPlaced s file) (called s (loading file)) cs
-countSince n s (forcing name ∷ cs) = countSince n (called s (forcing name)) cs
-countSince n s (basing address ∷ cs) = countSince n (called s (basing address)) cs
-countSince n s (resetting ∷ cs) = countSince 0 (called s resetting) cs
-countSince n s (ending out ∷ cs) = countSince n (called s (ending out)) cs
+countSince n s (c ∷ cs) = countSince (countAfter n s c) (called s c) cs

@@ -51,3 +51,7 @@ largestBase = 4095
 -- what HIGH and a highest reference are where there is none: "65,535"
 abbrev pub noAddress : ℕ
 noAddress = 65535
+
+-- "its fixed length", of work memory: the paper leaves it to us; two cells for each of the parts that the longest file can have
+abbrev pub workSize : ℕ
+workSize = 65536

@@ -9,7 +9,7 @@ use Rattle.rules.specs.Answers.{DONE, DUPLICATE}
 use Rattle.rules.specs.Reading.{Module, Item, free, section, readingOf, itemsOf}
 use Rattle.rules.specs.State.{State, marked, broken, isUndefined}
 use Rattle.rules.specs.Placing.{entries, entryName, placingFault, placed, twice}
-use Rattle.rules.specs.Search.{Found, search}
+use Rattle.rules.specs.Search.{Found, count, search}
 use Rattle.rules.specs.declared.answer.Refusal.{Refusal}
 use Rattle.rules.specs.declared.reading.Reading.{Reading}
 use Rattle.rules.specs.declared.reading.Reading.the-variants.{Complete, Stopped}
@@ -86,6 +86,27 @@ walkItems p (i ∷ is) = walkItems (walkItem p i) is
 
 abbrev pub walkFrom : State → List Item → Progress
 walkFrom s is = walkItems (progress (walking s) 0) is
+
+-- ---- "modules taken plus sections", which bounds the rounds
+
+-- the modules that a section's search takes, where the walk stands there
+unfoldable pub takenAt : Walk → Item → ℕ
+takenAt w (free m) = 0
+takenAt w (section line ms) = count (searched ms w .taken) (length ms)
+
+-- and all of them along a walk
+unfoldable pub takenIn : Progress → List Item → ℕ
+takenIn p [] = 0
+takenIn p (i ∷ is) = takenAt (p .walk) i + takenIn (walkItem p i) is
+
+-- the sections of a file
+unfoldable pub sectionsAt : Item → ℕ
+sectionsAt (free m) = 0
+sectionsAt (section line ms) = 1
+
+unfoldable pub sectionsIn : List Item → ℕ
+sectionsIn [] = 0
+sectionsIn (i ∷ is) = sectionsAt i + sectionsIn is
 
 -- ---- the load
 

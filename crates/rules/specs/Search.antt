@@ -17,6 +17,11 @@ noModules i = false
 unfoldable pub withModule : ℕ → ModuleSet → ModuleSet
 withModule i t j = eqb i j || t j
 
+-- how many of the first n modules are in a set
+unfoldable pub count : ModuleSet → ℕ → ℕ
+count t zero = 0
+count t (suc n) = cond (t n) 1 0 + count t n
+
 -- within a round: the modules taken so far, how many of them in this round, and what the search changes
 pub record Sweep (X : Type 0) : Type 0 where
   pub taken : ModuleSet

@@ -9,9 +9,9 @@ use lib.ListN.{length, getD, replicate}
 use lib.Dec.{eqb}
 use borrow.Author.Tests.{eq-eqb, ne-eqb}
 use Rattle.rules.specs.Reading.{Module}
-use Rattle.rules.specs.Search.{ModuleSet, noModules, Sweep, Found, found, roundMore, round, search}
+use Rattle.rules.specs.Search.{ModuleSet, noModules, Sweep, Found, found, roundMore, round, search, count}
 use Rattle.rules.specs.Load.{Walk, walk, takes, place, searched}
-use Rattle.rules.proofs.SearchLaws.{count, count-most, round-took}
+use Rattle.rules.proofs.SearchLaws.{count-most, round-took}
 use Rattle.rules.proofs.FuelLaws.{roundsFrom, rounds-turn}
 use Rattle.tables.specs.Tables.{modulesIn}
 use Rattle.state.specs.Layout.{decode}

@@ -1,6 +1,7 @@
 -- Sound cells: they are good, they are the encoding of what they decode to, and a sound state's encoding is sound.
 use Prim.Native.Nat.{ℕ}
-use mathlib.Core.Bool.{true, false, _&&_, false≢true}
+use native.Mathlib.Omega.{arith}
+use mathlib.Core.Bool.{Bool, true, false, cond, _&&_, false≢true}
 use mathlib.Core.List.{List, [], _∷_}
 use mathlib.Core.Logic.{_≢_}
 use mathlib.Core.Path.{_≡_, refl, sym, ap, ap₂, _∙_}
@@ -115,6 +116,25 @@ lent-encode s e =
     let y = sound-tidy s e in
     lent-holding (encode s) (encode-long s (y .few) (y .full)) (encode-sound s e)
     ∙ ap holding (decode-encode s (y .few) (y .full) (y .values))
+
+-- cells that are lent as holding a state are its encoding, and it is sound
+lent-held : (cells : List ℕ) (s : State) → lent cells ≡ holding s → (cells ≡ encode s) × (sound s ≡ true)
+unfolding lent
+lent-held cells s h = go (eqb (length cells) size) (soundCells cells) refl h
+  where
+    go : (long good : Bool) → soundCells cells ≡ good → cond long (cond good (holding (decode cells)) damaged) wrongLength ≡ holding s → (cells ≡ encode s) × (sound s ≡ true)
+    go true true e h =
+        let same : decode cells ≡ s = cc in
+        (sound-cells cells e ∙ ap encode same, ap sound (sym same) ∙ sound-state cells e)
+    go true false e h = absurd (let z : _≡_ {A = ℕ} 0 1 = cc in omega arith)
+    go false good e h = absurd (let z : _≡_ {A = ℕ} 0 1 = cc in omega arith)
+
+module _ (cells : List ℕ) (s : State) (h : lent cells ≡ holding s) where
+  pub held-encoded : cells ≡ encode s
+  held-encoded = lent-held cells s h .0
+
+  pub held-sound : sound s ≡ true
+  held-sound = lent-held cells s h .1
 
 -- ---- what is left
 

@@ -10,4 +10,6 @@ pub mod WordLaws
 pub mod FreshLaws
 pub mod LentLaws
 pub mod PromiseLaws
+pub mod SequenceLaws
+pub mod LastWeek
 pub mod CallLaws

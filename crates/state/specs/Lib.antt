@@ -3,3 +3,4 @@ pub mod Good
 pub mod Table
 pub mod Words
 pub mod Promise
+pub mod Sequence

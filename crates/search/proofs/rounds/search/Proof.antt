@@ -4,7 +4,8 @@ use mathlib.Core.Path.{_≡_, refl, sym, ap, subst, _∙_}
 use lib.ListN.{length}
 use borrow.Author.Needs.{needs}
 use Rattle.rules.specs.Load.{Walk, searched}
-use Rattle.rules.proofs.SearchLaws.{count, count-most}
+use Rattle.rules.specs.Search.{count}
+use Rattle.rules.proofs.SearchLaws.{count-most}
 use Rattle.tables.specs.Tables.{modulesIn}
 use Rattle.state.specs.Good.{Good}
 use Rattle.placing.specs.Walks.{Agrees}

@@ -1,0 +1,6 @@
+pub mod LentBefore
+pub mod FreshLaws
+pub mod RefusedLaws
+pub mod LoadLaws
+pub mod NameLaws
+pub mod ImageLaws

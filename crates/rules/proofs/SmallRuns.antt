@@ -1,0 +1,256 @@
+-- Small runs that pin the definitions where P1 to P10 do not reach: a row for each sentence, all of them under one claim that antt
+-- computes. What stands to the right is worked out from document 01, with plain numbers.
+use Prim.Native.Nat.{ℕ, _-_}
+use Prim.Native.String.{String}
+use mathlib.Core.Bool.{Bool, true, false}
+use mathlib.Core.List.{List, [], _∷_, _++_}
+use mathlib.Core.Path.{_≡_, refl}
+use lib.ListN.{replicate}
+use Rattle.rules.specs.Text as Text
+use Rattle.rules.specs.Line as Line
+use Rattle.rules.specs.Reading as Reading
+use Rattle.rules.specs.State as State
+use Rattle.rules.specs.Calls as Calls
+use Rattle.rules.specs.Image as Image
+use Rattle.rules.specs.Placing as Placing
+use Rattle.rules.specs.Text.{bytes, linesOf, packName}
+use Rattle.rules.specs.Line.{lineAnswer}
+use Rattle.rules.specs.Reading.{readingOf}
+use Rattle.rules.specs.State.{symbol, plain, unplaced, refers, Mark, unmarked, broken, frozen, State, state, fresh, high, highest}
+use Rattle.rules.specs.Calls.{wrongLength, damaged, holding, Left, asBefore, now, Outcome, outcome, workAfter, load, force, base, reset, memory, symbols, undefined, end}
+use Rattle.rules.specs.declared.line.FaultKind.{FaultKind}
+use Rattle.rules.specs.declared.line.FaultKind.the-variants.{IllegalByte, BadMarker, FieldCount, BadNumber, BadName, BadType}
+use Rattle.rules.specs.declared.line.Fault.{Fault}
+use Rattle.rules.specs.declared.line.Relocation.{Relocation}
+use Rattle.rules.specs.declared.line.Relocation.the-variants.{Plain, External, Unread}
+use Rattle.rules.specs.declared.line.CodeWord.{CodeWord}
+use Rattle.rules.specs.declared.line.Entry.{Entry}
+use Rattle.rules.specs.declared.line.Header.the-variants.{CodeBlock, EndBlock, TitleBlock, EntryBlock, ExternalBlock, LibraryStart, LibraryEnd, DataBlock, InitBlock, ParameterBlock}
+use Rattle.rules.specs.declared.line.Expected.{Expected}
+use Rattle.rules.specs.declared.line.Expected.the-variants.{AnyHeader, OpeningTitle, ClosingTitle, CodeRecord, EntryRecord, ExternalRecord, DataRecord, InitRecord, ParameterRecord, SubRecord}
+use Rattle.rules.specs.declared.line.LineAnswer.{LineAnswer}
+use Rattle.rules.specs.declared.line.LineAnswer.the-variants.{Bad, Blank, Head, Opening, Closing, Code, Entered, Mentioned, Ignored, Parameter, Sub}
+use Rattle.rules.specs.declared.reading.Reading.{Reading}
+use Rattle.rules.specs.declared.reading.Reading.the-variants.{Complete, Stopped}
+use Rattle.rules.specs.declared.answer.LoadAnswer.{LoadAnswer}
+use Rattle.rules.specs.declared.answer.CallAnswer.{CallAnswer}
+use Rattle.rules.specs.declared.answer.MemoryAnswer.{MemoryAnswer}
+use Rattle.rules.specs.declared.answer.SymbolAnswer.{SymbolAnswer}
+use Rattle.rules.specs.declared.answer.UndefinedAnswer.{UndefinedAnswer}
+use Rattle.rules.specs.declared.answer.EndAnswer.{EndAnswer}
+
+-- ---- what the rows are written with
+
+-- what a line says where this is expected
+abbrev line : Expected → String → LineAnswer
+line w text = lineAnswer w (bytes text)
+
+-- a text and a byte that cannot be typed
+abbrev with-byte : String → ℕ → List ℕ
+with-byte text b = bytes text ++ (b ∷ [])
+
+-- a TITLE header of n bytes, spaces behind it
+abbrev wide : ℕ → List ℕ
+wide n = bytes "3 ***TITLE" ++ replicate (n - 10) 32
+
+abbrev fault : FaultKind → ℕ → LineAnswer
+fault k c = Bad (record { kind = k; column = c })
+
+abbrev word : ℕ → Relocation → LineAnswer
+word t r = Code (record { text = t; relocation = r })
+
+abbrev name : String → ℕ
+name x = packName (bytes x)
+
+abbrev entry : String → ℕ → Bool → ℕ → LineAnswer
+entry x v r p = Entered (record { name = name x; value = v; relocated = r; parameters = p })
+
+-- what reading a file comes to
+abbrev file : String → Reading
+file text = readingOf (bytes text)
+
+-- two symbols, of which the second is undefined and is referred to from 0 and 2
+abbrev linked : Mark → State
+linked k =
+    state (symbol (name "A") 5 true ∷ symbol (name "B") 0 false ∷ []) (refers 7 1 ∷ plain 1 ∷ refers 8 1 ∷ unplaced ∷ []) 3 k
+
+abbrev called : ℕ → Left → Outcome CallAnswer
+called k l = outcome (record { number = k; line = 0 }) l
+
+-- "Lines end in LF; one CR just before it is dropped; the last line may lack LF. [..] nothing after a final LF is a line."
+abbrev Lines : Type 0
+Lines =
+    (linesOf (bytes "A" ++ (13 ∷ 10 ∷ [])) ≡ bytes "A" ∷ [])
+    × (linesOf (bytes "A" ++ (13 ∷ 13 ∷ 10 ∷ [])) ≡ with-byte "A" 13 ∷ [])
+    × (linesOf (with-byte "A" 13 ++ bytes "B\nC" ++ (13 ∷ [])) ≡ (with-byte "A" 13 ++ bytes "B") ∷ with-byte "C" 13 ∷ [])
+    × (linesOf (bytes "A\n\nB\n") ≡ bytes "A" ∷ [] ∷ bytes "B" ∷ [])
+    × (linesOf [] ≡ [])
+
+-- "line at most 80 bytes without its end"; "Other bytes are 32 to 126."; a line with no field is blank, but still tested
+abbrev Bytes : Type 0
+Bytes =
+    (lineAnswer AnyHeader (wide 80) ≡ Head TitleBlock)
+    × (lineAnswer AnyHeader (wide 81) ≡ fault IllegalByte 81)
+    × (lineAnswer InitRecord (with-byte "1 2 3 4 " 126) ≡ Ignored)
+    × (lineAnswer InitRecord (with-byte "1 2 3 4 " 127) ≡ fault IllegalByte 9)
+    × (lineAnswer InitRecord (with-byte "1 2 3 4 " 31) ≡ fault IllegalByte 9)
+    × (lineAnswer InitRecord (with-byte "1 2 3 4 " 13) ≡ fault IllegalByte 9)
+    × (line AnyHeader "   " ≡ Blank)
+    × (lineAnswer AnyHeader (replicate 81 32) ≡ fault IllegalByte 81)
+    × (lineAnswer AnyHeader (with-byte "  " 127) ≡ fault IllegalByte 3)
+
+-- "A header is a code (a number like any other, so `010` is code 10), its fields and the marker, in that order"
+abbrev Headers : Type 0
+Headers =
+    (line AnyHeader "0 2 3 ***CODE" ≡ Head (CodeBlock 2 3))
+    × (line AnyHeader "1 ***END" ≡ Head EndBlock)
+    × (line AnyHeader "3 ***TITLE" ≡ Head TitleBlock)
+    × (line AnyHeader "4 2 ***ENTRY" ≡ Head (EntryBlock 2))
+    × (line AnyHeader "5 2 ***EXT" ≡ Head (ExternalBlock 2))
+    × (line AnyHeader "6 ***LSB" ≡ Head LibraryStart)
+    × (line AnyHeader "7 ***LEB" ≡ Head LibraryEnd)
+    × (line AnyHeader "10 2 A 3 ***DBDB" ≡ Head (DataBlock 2))
+    × (line AnyHeader "11 2 ***DBIB" ≡ Head (InitBlock 2))
+    × (line AnyHeader "12 2 ***FPB" ≡ Head (ParameterBlock 2))
+    × (line AnyHeader "13 2 ***AENTRY" ≡ Head (EntryBlock 2))
+    × (line AnyHeader "  010  10  A  3  ***DBDB  " ≡ Head (DataBlock 8))
+    × (line AnyHeader "10 2 1A 3 ***DBDB" ≡ fault BadName 6)
+    × (line AnyHeader "***TITLE 3" ≡ fault BadMarker 1)
+    × (line AnyHeader "4 ***ENTRY 2" ≡ fault BadNumber 3)
+    × (line AnyHeader "4 2 ***AENTRY" ≡ fault BadMarker 5)
+    × (line AnyHeader "4 2" ≡ fault FieldCount 4)
+    × (line AnyHeader "4 2 ***ENTRY 3" ≡ fault FieldCount 14)
+    × (line AnyHeader "2 ***TITLE" ≡ fault BadMarker 1)
+    × (line AnyHeader "15 2 ***AENTRY" ≡ fault BadMarker 1)
+
+-- "Data records", by the table of headers
+abbrev Records : Type 0
+Records =
+    (line OpeningTitle "MAIN" ≡ Opening (name "MAIN"))
+    × (line ClosingTitle "MAIN" ≡ Closing (name "MAIN"))
+    × (line EntryRecord "A 5 0" ≡ entry "A" 5 false 0)
+    × (line EntryRecord "A 5 1 2" ≡ entry "A" 5 true 2)
+    × (line EntryRecord "A 5 1" ≡ fault FieldCount 6)
+    × (line EntryRecord "A 5 0 2" ≡ fault FieldCount 7)
+    × (line EntryRecord "A 5 2" ≡ fault BadType 5)
+    × (line ExternalRecord "A1B2C3" ≡ Mentioned (name "A1B2C3"))
+    × (line ExternalRecord "A1B2C3D" ≡ fault BadName 1)
+    × (line ExternalRecord "1A" ≡ fault BadName 1)
+    × (line ExternalRecord "a" ≡ fault BadName 1)
+    × (line ExternalRecord "A B" ≡ fault FieldCount 3)
+    × (line DataRecord "1 2" ≡ Ignored)
+    × (line DataRecord "1" ≡ fault FieldCount 2)
+    × (line InitRecord "A 9 * ? -" ≡ Ignored)
+    × (line InitRecord "1 2 3 4" ≡ fault FieldCount 8)
+    × (line InitRecord "1 2 3 4 5 6" ≡ fault FieldCount 11)
+    × (line ParameterRecord "1 2 7" ≡ Parameter 7)
+    × (line ParameterRecord "1 2 10" ≡ fault BadNumber 5)
+    × (line SubRecord "1 2" ≡ Sub)
+    × (line SubRecord "1 ***END" ≡ fault BadNumber 3)
+
+-- "four numbers, the quarters; or an asterisk field, four quarters, then 0, type and arg"; types by their values
+abbrev Codewords : Type 0
+Codewords =
+    (line CodeRecord "1 2 3 4" ≡ word 0x0001_0002_0003_0004 Plain)
+    × (line CodeRecord "1 2 3" ≡ fault FieldCount 6)
+    × (line CodeRecord "1 2 3 4 5" ≡ fault FieldCount 9)
+    × (line CodeRecord "177777 0000010 3 4" ≡ fault BadNumber 8)
+    × (line CodeRecord "200000 2 3 4" ≡ fault BadNumber 1)
+    × (line CodeRecord "* 1 2 3 4 0 5 1" ≡ word 0x0001_0002_0003_0004 (External 1))
+    × (line CodeRecord "* 1 2 3 4 00 000005 1" ≡ word 0x0001_0002_0003_0004 (External 1))
+    × (line CodeRecord "* 1 2 3 4 0 1 1" ≡ word 0x0001_0002_0003_0004 (Unread 1))
+    × (line CodeRecord "* 1 2 3 4 0 4 1" ≡ word 0x0001_0002_0003_0004 (Unread 4))
+    × (line CodeRecord "* 1 2 3 4 1 5 1" ≡ fault BadType 11)
+    × (line CodeRecord "* 1 2 3 4 0 0 1" ≡ fault BadType 13)
+    × (line CodeRecord "* 1 2 3 4 0 6 1" ≡ fault BadType 13)
+    × (line CodeRecord "* 1 2 3 4 0 5" ≡ fault FieldCount 14)
+
+-- 7 PLACE, "A file ending too soon is at the last line number plus one", "the earliest line with 6, 7 or 8 decides"
+abbrev Files : Type 0
+Files =
+    (file "" ≡ Complete)
+    × (file "3 ***TITLE\nA\n1 ***END\nA\n" ≡ Complete)
+    × (file "6 ***LSB\n7 ***LEB" ≡ Complete)
+    × (file "3 ***TITLE" ≡ Stopped 7 2 0)
+    × (file "3 ***TITLE\nA\n\n" ≡ Stopped 7 4 0)
+    × (file "6 ***LSB\n" ≡ Stopped 7 2 0)
+    × (file "3 ***TITLE\nA\n4 1 ***ENTRY\n" ≡ Stopped 7 4 0)
+    × (file "0 0 0 ***CODE\n" ≡ Stopped 7 1 0)
+    × (file "1 ***END\nA\n" ≡ Stopped 7 1 0)
+    × (file "7 ***LEB\n" ≡ Stopped 7 1 0)
+    × (file "6 ***LSB\n6 ***LSB\n" ≡ Stopped 7 2 0)
+    × (file "3 ***TITLE\nA\n3 ***TITLE\n" ≡ Stopped 7 3 0)
+    × (file "3 ***TITLE\nA\n6 ***LSB\n" ≡ Stopped 7 3 0)
+    × (file "3 ***TITLE\nA\n1 ***END\nB\n" ≡ Stopped 7 4 0)
+    × (file "8\n7 ***LEB\n" ≡ Stopped 6 1 1)
+    × (file "7 ***LEB\n8\n" ≡ Stopped 7 1 0)
+
+-- MEMORY, SYMBOLS and UNDEFINED
+abbrev Looking : Type 0
+Looking =
+    (high fresh ≡ 65535)
+    × (high (linked unmarked) ≡ 2)
+    × (highest 1 (linked unmarked .words) ≡ 2)
+    × (highest 0 (linked unmarked .words) ≡ 65535)
+    × (memory (holding (linked broken)) ≡ record { number = 0; line = 0; high = 2 })
+    × (symbols (holding (linked broken)) 0 ≡ record { number = 0; line = 0; none = 0; name = name "A"; value = 5; defined = 1 })
+    × (symbols (holding (linked broken)) 1 ≡ record { number = 0; line = 0; none = 0; name = name "B"; value = 0; defined = 0 })
+    × (symbols (holding (linked broken)) 2 ≡ record { number = 0; line = 0; none = 1; name = 0; value = 0; defined = 0 })
+    × (undefined (holding (linked frozen)) 0 ≡ record { number = 0; line = 0; none = 0; name = name "B"; value = 0; defined = 0; highest = 2 })
+    × (undefined (holding (linked frozen)) 1 ≡ record { number = 0; line = 0; none = 1; name = 0; value = 0; defined = 0; highest = 0 })
+
+-- 1 BUFFER ahead of 2 DAMAGED, in each call; "RESET tests only 1"; work memory
+abbrev Lengths : Type 0
+Lengths =
+    (load wrongLength true [] ≡ outcome (record { number = 1; line = 0; rounds = 0 }) asBefore)
+    × (load damaged false [] ≡ outcome (record { number = 1; line = 0; rounds = 0 }) asBefore)
+    × (load damaged true [] ≡ outcome (record { number = 2; line = 0; rounds = 0 }) asBefore)
+    × (force wrongLength [] ≡ called 1 asBefore)
+    × (force damaged [] ≡ called 2 asBefore)
+    × (base wrongLength 9999 ≡ called 1 asBefore)
+    × (base damaged 9999 ≡ called 2 asBefore)
+    × (reset wrongLength ≡ called 1 asBefore)
+    × (reset damaged ≡ called 0 (now (state [] (replicate 4096 unplaced) 0 unmarked)))
+    × (memory wrongLength ≡ record { number = 1; line = 0; high = 0 })
+    × (memory damaged ≡ record { number = 2; line = 0; high = 0 })
+    × (symbols wrongLength 0 ≡ record { number = 1; line = 0; none = 0; name = 0; value = 0; defined = 0 })
+    × (symbols damaged 0 ≡ record { number = 2; line = 0; none = 0; name = 0; value = 0; defined = 0 })
+    × (undefined wrongLength 0 ≡ record { number = 1; line = 0; none = 0; name = 0; value = 0; defined = 0; highest = 0 })
+    × (undefined damaged 0 ≡ record { number = 2; line = 0; none = 0; name = 0; value = 0; defined = 0; highest = 0 })
+    × (end wrongLength (9 ∷ []) ≡ record { call = outcome (record { number = 1; line = 0; length = 0 }) asBefore; output = 9 ∷ [] })
+    × (end damaged (9 ∷ []) ≡ record { call = outcome (record { number = 2; line = 0; length = 0 }) asBefore; output = 9 ∷ [] })
+    × (workAfter 2 (7 ∷ 8 ∷ []) ≡ 0 ∷ 0 ∷ [])
+    × (workAfter 3 (7 ∷ 8 ∷ []) ≡ 7 ∷ 8 ∷ [])
+
+-- 3 RESET and 4 FROZEN, each in its calls, ahead of 5, 12, 15; END tests 16 last, and is repeated
+abbrev Marks : Type 0
+Marks =
+    (load (holding (linked broken)) true [] ≡ outcome (record { number = 3; line = 0; rounds = 0 }) asBefore)
+    × (load (holding (linked frozen)) true (replicate 65537 32) ≡ outcome (record { number = 4; line = 0; rounds = 0 }) asBefore)
+    × (load (holding (linked unmarked)) true (replicate 65537 32) ≡ outcome (record { number = 5; line = 0; rounds = 0 }) asBefore)
+    × (force (holding (linked broken)) [] ≡ called 3 asBefore)
+    × (force (holding (linked frozen)) [] ≡ called 4 asBefore)
+    × (force (holding (linked unmarked)) [] ≡ called 15 asBefore)
+    × (force (holding (linked unmarked)) (bytes "A") ≡ called 0 (now (linked unmarked)))
+    × (base (holding (linked broken)) 4096 ≡ called 3 asBefore)
+    × (base (holding (linked frozen)) 4096 ≡ called 4 asBefore)
+    × (base (holding (linked unmarked)) 4096 ≡ called 12 asBefore)
+    × (end (holding (linked broken)) [] ≡ record { call = outcome (record { number = 3; line = 0; length = 0 }) asBefore; output = [] })
+    × (end (holding (linked frozen)) [] ≡ record { call = outcome (record { number = 16; line = 0; length = 0 }) asBefore; output = [] })
+    × (end (holding (linked frozen)) (replicate 38 1) .call ≡ outcome (record { number = 0; line = 0; length = 38 }) (now (linked frozen)))
+
+-- ---- the claim
+
+pub small-table : Lines × Bytes × Headers × Records × Codewords × Files × Looking × Lengths × Marks
+unfolding Text.bytes Text.all Text.any Text.widenLine Text.cutLines Text.withoutEnd Text.linesOf Text.legalFront Text.startsField Text.widenField Text.addToFields Text.fieldsFrom Text.fieldsOf Text.octal Text.isNumber Text.numberOf Text.isName Text.packName Text.nameOf Text.upToZero Text.unpackName Text.isPacked Line.headers Line.rowIn Line.rowOf Line.markerIn Text.sameText Line.held Line.inBounds Line.readField Line.inFront Line.fit Line.said Line.readAs Line.recordShape Line.codeLine Line.entryLine Line.sayHeader Line.rowAt Line.firstText Line.headerLine Line.isOne Line.textAt Line.fieldsSay Line.lineOf Line.faultWithin Line.testBytes Line.lineAnswer Reading.atStart Reading.expect Reading.expectRecords Reading.recordDone Reading.expectSubs Reading.titleHeader Reading.enterModule Reading.leaveModule Reading.enterSection Reading.leaveSection Reading.countEntry Reading.countExternal Reading.titleStep Reading.libraryStep Reading.libraryEndStep Reading.headerStep Reading.closingStep Reading.entryStep Reading.externalStep Reading.parameterStep Reading.subStep Reading.stepOf Reading.unread Reading.moduleDone Reading.stepped Reading.ifComplete Reading.readLine Reading.readLines Reading.isHeader Reading.atEnd Reading.readingOf Reading.itemsOf State.noWords State.fresh State.isSymbol State.isDefined State.isUndefined State.positionOf State.undefinedOnly State.placedWords State.highestFrom State.highest State.high State.soundSymbol State.differentNames State.soundWord State.sound Calls.workAfter Calls.shutBy Calls.loadState Calls.loadLent Calls.load Calls.forceState Calls.force Calls.baseState Calls.base Calls.reset Calls.memory Calls.symbolAt Calls.symbols Calls.undefinedAt Calls.undefined Calls.isBroken Calls.endState Calls.end Image.valueOf Image.completed Image.two Image.quarters Image.wordRecord Image.recordOf Image.recordsFrom Image.endRecord Image.imageOf Placing.mention
+small-table = (
+  (refl, refl, refl, refl, refl),
+  (refl, refl, refl, refl, refl, refl, refl, refl, refl),
+  (refl, refl, refl, refl, refl, refl, refl, refl, refl, refl, refl, refl, refl, refl, refl, refl, refl, refl, refl, refl),
+  (refl, refl, refl, refl, refl, refl, refl, refl, refl, refl, refl, refl, refl, refl, refl, refl, refl, refl, refl, refl, refl),
+  (refl, refl, refl, refl, refl, refl, refl, refl, refl, refl, refl, refl, refl),
+  (refl, refl, refl, refl, refl, refl, refl, refl, refl, refl, refl, refl, refl, refl, refl, refl),
+  (refl, refl, refl, refl, refl, refl, refl, refl, refl, refl),
+  (refl, refl, refl, refl, refl, refl, refl, refl, refl, refl, refl, refl, refl, refl, refl, refl, refl, refl, refl),
+  (refl, refl, refl, refl, refl, refl, refl, refl, refl, refl, refl, refl, refl),
+)

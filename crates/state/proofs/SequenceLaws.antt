@@ -1,0 +1,83 @@
+-- Calls in a row: what the promise of each call says of them all.
+use Prim.Native.Nat.{ℕ}
+use native.Mathlib.Omega.{arith}
+use mathlib.Core.Bool.{Bool, true, false, cond}
+use mathlib.Core.List.{List, [], _∷_}
+use mathlib.Core.Path.{_≡_, refl, sym, ap, ap₂, subst, _∙_}
+use lib.ListN.{length}
+use lib.Dec.{eqb}
+use borrow.Author.Tests.{eq-eqb}
+use Rattle.rules.specs.Limits.{workSize}
+use Rattle.rules.specs.State.{State, fresh, sound}
+use Rattle.rules.specs.Calls.{Lent, wrongLength, damaged, holding, Left, asBefore, now, Outcome, EndOutcome, workAfter, load, force, base, reset, memory, symbols, undefined, end}
+use Rattle.rules.specs.History.{Call, loading, forcing, basing, resetting, askingHigh, listing, listingUndefined, ending, Reply, ofLoad, ofCall, ofMemory, ofSymbols, ofUndefined, ofEnd, workFits, replyTo, leftBy, stateAfter, called, calledAll}
+use Rattle.rules.specs.declared.answer.LoadAnswer.{LoadAnswer}
+use Rattle.rules.specs.declared.answer.CallAnswer.{CallAnswer}
+use Rattle.rules.specs.declared.answer.MemoryAnswer.{MemoryAnswer}
+use Rattle.rules.specs.declared.answer.SymbolAnswer.{SymbolAnswer}
+use Rattle.rules.specs.declared.answer.UndefinedAnswer.{UndefinedAnswer}
+use Rattle.rules.specs.declared.answer.EndAnswer.{EndAnswer}
+use Rattle.rules.proofs.SoundCalls.{called-sound}
+use Rattle.state.specs.Layout.{size, soundCells, encode, decode, lent, cellsAfter}
+use Rattle.state.specs.Promise.{Called, Ended}
+use Rattle.state.specs.Sequence.{cellsCalled, Replied, Run, stop, step}
+use Rattle.state.proofs.LentLaws.{held-sound, lent-encode}
+
+-- ---- each call's own promise is the promise of any call
+
+module _ (cells after : List ℕ) where
+  pub load-replied : (work file : List ℕ) (r : LoadAnswer) (left : List ℕ) → Called (load (lent cells) (workFits work) file) cells r after → left ≡ workAfter workSize work → Replied cells (loading work file) (ofLoad r left) after
+  unfolding replyTo cellsCalled leftBy
+  load-replied work file r left c w = record { reply = ap₂ {C = Reply} ofLoad (c .answer) w; cells = c .cells }
+
+  pub force-replied : (name : List ℕ) (r : CallAnswer) → Called (force (lent cells) name) cells r after → Replied cells (forcing name) (ofCall r) after
+  unfolding replyTo cellsCalled leftBy
+  force-replied name r c = record { reply = ap ofCall (c .answer); cells = c .cells }
+
+  pub base-replied : (address : ℕ) (r : CallAnswer) → Called (base (lent cells) address) cells r after → Replied cells (basing address) (ofCall r) after
+  unfolding replyTo cellsCalled leftBy
+  base-replied address r c = record { reply = ap ofCall (c .answer); cells = c .cells }
+
+  pub reset-replied : (r : CallAnswer) → Called (reset (lent cells)) cells r after → Replied cells resetting (ofCall r) after
+  unfolding replyTo cellsCalled leftBy
+  reset-replied r c = record { reply = ap ofCall (c .answer); cells = c .cells }
+
+  pub end-replied : (before : List ℕ) (r : EndAnswer) (out : List ℕ) → Ended (end (lent cells) before) cells r after out → Replied cells (ending before) (ofEnd r out) after
+  unfolding replyTo cellsCalled leftBy
+  end-replied before r out e = record { reply = ap₂ {C = Reply} ofEnd (e .call .answer) (e .output); cells = e .call .cells }
+
+-- the calls that only look
+module _ (cells : List ℕ) where
+  pub memory-replied : (r : MemoryAnswer) → r ≡ memory (lent cells) → Replied cells askingHigh (ofMemory r) cells
+  unfolding replyTo cellsCalled leftBy cellsAfter
+  memory-replied r e = record { reply = ap ofMemory e; cells = refl }
+
+  pub symbols-replied : (i : ℕ) (r : SymbolAnswer) → r ≡ symbols (lent cells) i → Replied cells (listing i) (ofSymbols r) cells
+  unfolding replyTo cellsCalled leftBy cellsAfter
+  symbols-replied i r e = record { reply = ap ofSymbols e; cells = refl }
+
+  pub undefined-replied : (i : ℕ) (r : UndefinedAnswer) → r ≡ undefined (lent cells) i → Replied cells (listingUndefined i) (ofUndefined r) cells
+  unfolding replyTo cellsCalled leftBy cellsAfter
+  undefined-replied i r e = record { reply = ap ofUndefined e; cells = refl }
+
+-- ---- what is lent holds a sound state, and after any call the state that the call's definition gives
+
+module _ (cells : List ℕ) (s : State) (h : lent cells ≡ holding s) where
+  left-holds : (l : Left) → sound (stateAfter s l) ≡ true → lent (cellsAfter cells l) ≡ holding (stateAfter s l)
+  unfolding cellsAfter stateAfter
+  left-holds asBefore y = h
+  left-holds (now t) y = lent-encode t y
+
+  pub holds-called : (c : Call) → lent (cellsCalled cells c) ≡ holding (called s c)
+  unfolding cellsCalled called
+  holds-called c =
+      ap (λ (m : Lent). lent (cellsAfter cells (leftBy m c))) h
+      ∙ left-holds (leftBy (holding s) c) (called-sound s c (held-sound cells s h))
+
+-- and after any calls in a row
+pub holds-run :
+    {cells last : List ℕ} {cs : List Call} {rs : List Reply} → Run cells cs rs last → (s : State) → lent cells ≡ holding s
+    → lent last ≡ holding (calledAll s cs)
+unfolding calledAll
+holds-run stop s h = h
+holds-run {cells} (step {c} p run) s h = holds-run run (called s c) (ap lent (p .cells) ∙ holds-called cells s h c)

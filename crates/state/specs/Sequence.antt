@@ -1,0 +1,31 @@
+-- Calls in a row on one state memory, each on what the one before it left there.
+use Prim.Native.Nat.{ℕ}
+use mathlib.Core.Bool.{true}
+use mathlib.Core.List.{List, [], _∷_}
+use mathlib.Core.Path.{_≡_}
+use Rattle.rules.specs.History.{Call, loading, Reply, workFits, replyTo, leftBy}
+use Rattle.state.specs.Layout.{lent, cellsAfter}
+
+-- state memory after a call
+unfoldable pub cellsCalled : List ℕ → Call → List ℕ
+cellsCalled cells c = cellsAfter cells (leftBy (lent cells) c)
+
+-- the promise of any call: its reply, and every cell afterwards, are the definition's
+pub record Replied (before : List ℕ) (c : Call) (r : Reply) (after : List ℕ) : Type 0 where
+  pub reply : r ≡ replyTo (lent before) c
+  pub cells : after ≡ cellsCalled before c
+
+-- calls in a row that keep this promise, from the first cells to the last, with their replies
+pub data Run : List ℕ → List Call → List Reply → List ℕ → Type 0 where
+  stop : {cells : List ℕ} → Run cells [] [] cells
+  step :
+      {cells next last : List ℕ} {c : Call} {cs : List Call} {r : Reply} {rs : List Reply} → Replied cells c r next
+      → Run next cs rs last → Run cells (c ∷ cs) (r ∷ rs) last
+
+-- the same calls, but that the work memory lent to a LOAD, where it has its length, may hold anything
+pub data Alike : List Call → List Call → Type 0 where
+  none : Alike [] []
+  same : {c : Call} {cs ds : List Call} → Alike cs ds → Alike (c ∷ cs) (c ∷ ds)
+  loads :
+      {work other file : List ℕ} {cs ds : List Call} → workFits work ≡ true → workFits other ≡ true → Alike cs ds
+      → Alike (loading work file ∷ cs) (loading other file ∷ ds)
