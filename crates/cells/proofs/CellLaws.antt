@@ -42,9 +42,6 @@ pub record Cleared (before : List ℕ) (n : ℕ) (cells : List ℕ) (i : ℕ) : 
   pub size : length cells ≡ length before
   pub is : cells ≡ replicate i 0 ++ drop i before
 
-pub cleared-start : (before : List ℕ) (n : ℕ) → n ≤ length before → Cleared before n before 0
-cleared-start before n h = record { within = omega arith; room = h; size = refl; is = refl }
-
 pub cleared-step : (before : List ℕ) (n : ℕ) (cells : List ℕ) (i : ℕ) → Cleared before n cells i → i < n → Cleared before n (set cells i 0) (i + 1)
 cleared-step before n cells i f l =
     record {

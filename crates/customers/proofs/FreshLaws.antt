@@ -21,7 +21,7 @@ use Rattle.rules.specs.declared.answer.SymbolAnswer.{SymbolAnswer}
 use Rattle.rules.specs.declared.answer.UndefinedAnswer.{UndefinedAnswer}
 use Rattle.rules.proofs.SoundCalls.{fresh-is-sound}
 use Rattle.state.specs.Layout.{size, encode, lent, cellsAfter}
-use Rattle.state.specs.Promise.{Called, Ended}
+use Rattle.state.specs.Promise.{Called, LoadCalled, Ended}
 use Rattle.state.specs.Sequence.{stop, step, Alike, none, same, loads}
 use Rattle.state.proofs.LentLaws.{lent-wrong, lent-encode}
 use Rattle.state.proofs.SequenceLaws.{reset-replied, load-replied, end-replied}
@@ -36,9 +36,10 @@ module _ (cells next : List ℕ) (a : CallAnswer) (c : Called (reset (lent cells
   reset-refused : length cells ≢ size → (a ≡ callAnswer 1) × (next ≡ cells)
   unfolding reset cellsAfter
   reset-refused e =
-      let is : reset (lent cells) ≡ stopped 1 = ap reset (lent-wrong cells e) in
-      ( c .answer ∙ ap (λ (o : Outcome CallAnswer). o .answer) is
-      , c .cells ∙ ap (λ (o : Outcome CallAnswer). cellsAfter cells (o .left)) is)
+      let is : reset (lent cells) ≡ stopped 1 = ap reset (lent-wrong cells e) in (
+        c .answer ∙ ap (λ (o : Outcome CallAnswer). o .answer) is,
+        c .cells ∙ ap (λ (o : Outcome CallAnswer). cellsAfter cells (o .left)) is,
+      )
 
   -- what memory holds after RESET
   pub reset-holds : length cells ≡ size → lent next ≡ holding fresh
@@ -83,7 +84,7 @@ module _ (cells next : List ℕ) (a : CallAnswer) (c : Called (reset (lent cells
 module _
     {state cleared loaded ended work used out written file : List ℕ} {a : CallAnswer} {load-answer : LoadAnswer} {end-answer : EndAnswer}
     (r : Called (reset (lent state)) state a cleared)
-    (l : Called (load (lent cleared) (workFits work) file) cleared load-answer loaded) (w : used ≡ workAfter workSize work)
+    (l : LoadCalled (load (lent cleared) (workFits work) file) cleared work load-answer loaded used)
     (e : Ended (end (lent loaded) out) loaded end-answer ended written) where
   pub linked : Linked (memories state work out) file load-answer end-answer (memories ended used written)
   linked =
@@ -91,9 +92,9 @@ module _
         reset = a;
         run =
             step (reset-replied state cleared a r)
-            (step (load-replied cleared loaded work file load-answer used l w)
+            (step (load-replied cleared loaded work file load-answer used l)
             (step (end-replied loaded ended out end-answer written e) stop));
-        cleared = w;
+        cleared = l .work-left;
       }
 
 alike-self : (cs : List Call) → Alike cs cs

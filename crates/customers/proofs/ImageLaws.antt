@@ -111,9 +111,11 @@ image-written : (cells out : List ℕ) (r : EndAnswer) (after written : List ℕ
     (take (r .length) written ≡ imageOf s) × (r .length ≡ 11 * placedWords (s .words) + 5)
 image-written cells out r after written d s h =
     let same : d .state ≡ s = same-held (d .held) h in
-    let long : r .length ≡ length (imageOf (d .state)) = ap (λ (a : EndAnswer). a .length) (d .answer) in
-    ( ap₂ {C = List ℕ} take long (d .output) ∙ take-append-seam (imageOf (d .state)) (drop (length (imageOf (d .state))) out) ∙ ap imageOf same
-    , long ∙ ap (λ (t : State). length (imageOf t)) same ∙ image-length s)
+    let long : r .length ≡ length (imageOf (d .state)) = ap (λ (a : EndAnswer). a .length) (d .answer) in (
+      ap₂ {C = List ℕ} take long (d .output) ∙ take-append-seam (imageOf (d .state)) (drop (length (imageOf (d .state))) out) ∙ ap imageOf same,
+      long ∙ ap (λ (t : State). length (imageOf t)) same ∙ image-length s,
+    )
+
 -- ---- END again, of the frozen state
 
 marked-image : (k : Mark) (s : State) → imageOf (marked k s) ≡ imageOf s

@@ -4,15 +4,15 @@ use mathlib.Core.List.{List, [], _∷_}
 use mathlib.Core.Path.{_≡_, refl, sym, ap, subst, _∙_}
 use Rattle.rules.specs.Reading.{Module, section, itemsOf}
 use Rattle.rules.specs.State.{State}
-use Rattle.rules.specs.Load.{Walk, walking, searched, walkItems, walkFrom}
-use Rattle.rules.specs.Limits.{workSize}
-use Rattle.rules.specs.Calls.{Lent, holding, workAfter, load, symbolAt, symbols}
+use Rattle.rules.specs.Load.{walking, searched, walkFrom}
+use Rattle.rules.specs.Calls.{Lent, holding, load, symbolAt, symbols}
 use Rattle.rules.specs.History.{workFits}
 use Rattle.rules.specs.declared.answer.LoadAnswer.{LoadAnswer}
-use Rattle.rules.specs.Demand.{LeastSufficient, TakesLeast, LeastAtEach}
+use Rattle.rules.specs.Demand.{LeastSufficient, LeastAtEach}
 use Rattle.rules.specs.declared.answer.SymbolAnswer.{SymbolAnswer}
+use Rattle.rules.proofs.Demand3.{library-least}
 use Rattle.state.specs.Layout.{lent}
-use Rattle.state.specs.Promise.{Called, DemandMet}
+use Rattle.state.specs.Promise.{LoadCalled, DemandMet}
 use Rattle.loading.proofs.LoadDemand.{load-least, load-rounds-most}
 use Rattle.customers.specs.Words.{LoadKept, Listed}
 use Rattle.customers.proofs.LentBefore.{same-held}
@@ -23,33 +23,31 @@ module _ (cells file after : List ℕ) (d : DemandMet cells file after) (s : Sta
   least-from : LeastAtEach s file (d .to)
   least-from = subst (λ t. LeastAtEach t file (d .to)) (same-held (d .held) h) (d .least)
 
-  library-least : (line : ℕ) (ms : List Module) → itemsOf file ≡ section line ms ∷ [] →
+  library-left : (line : ℕ) (ms : List Module) → itemsOf file ≡ section line ms ∷ [] →
       LeastSufficient (s .symbols) ms (searched ms (walking s) .taken) × (lent after ≡ holding (searched ms (walking s) .now .state))
-  unfolding walkItems
-  library-least line ms e =
-      let here : TakesLeast (walking s) ms (walkFrom s (section line ms ∷ []) .walk) = least-from .sections [] [] line ms e in
-      let last : d .to ≡ searched ms (walking s) .now .state =
-      least-from .ends ∙ ap (λ is. walkFrom s is .walk .state) e ∙ ap (λ (w : Walk). w .state) (here .goes-on) in
-      (here .least, d .holds ∙ ap holding last)
+  library-left line ms e =
+      let here = library-least s (d .to) file line ms least-from e in
+      (here .0, d .holds ∙ ap holding (here .1))
 
   symbols-left : (i : ℕ) (r : SymbolAnswer) → r ≡ symbols (lent after) i → r ≡ symbolAt (walkFrom s (itemsOf file) .walk .state .symbols) i
   unfolding symbols
   symbols-left i r e = e ∙ ap (λ m. symbols m i) (d .holds) ∙ ap (λ (t : State). symbolAt (t .symbols) i) (least-from .ends)
 
-module _ (before work file : List ℕ) (r : LoadAnswer) (after : List ℕ) (c : Called (load (lent before) (workFits work) file) before r after) where
-  pub load-kept : (used : List ℕ) → used ≡ workAfter workSize work → LoadKept before work file r after used
-  load-kept used w =
+module _ (before work file : List ℕ) (r : LoadAnswer) (after used : List ℕ) (p : LoadCalled (load (lent before) (workFits work) file) before work r after used) where
+  pub load-kept : LoadKept before work file r after used
+  load-kept =
+      let c = p .call in
       let kept = refused-keeps before work file r after c in
       let least = load-least before work file r after c in
       record {
         kept = λ z. kept z .0;
         unread = λ z few. kept z .1 few;
-        cleared = work-cleared work used w .0;
-        untouched = work-cleared work used w .1;
+        cleared = work-cleared work used (p .work-left) .0;
+        untouched = work-cleared work used (p .work-left) .1;
         least = least;
-        library = λ z s line ms h e. library-least before file after (least z) s h line ms e;
+        library = λ z s line ms h e. library-left before file after (least z) s h line ms e;
         rounds = λ z s h. load-rounds-most before work file r after c z s h;
       }
 
   pub listed : (i : ℕ) (q : SymbolAnswer) → q ≡ symbols (lent after) i → Listed before file i r q
-  listed i q e z s h = symbols-left before file after (load-least before work file r after c z) s h i q e
+  listed i q e z s h = symbols-left before file after (load-least before work file r after (p .call) z) s h i q e

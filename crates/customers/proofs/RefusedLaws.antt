@@ -18,7 +18,7 @@ use Rattle.rules.specs.declared.answer.CallAnswer.{CallAnswer}
 use Rattle.rules.specs.declared.answer.EndAnswer.{EndAnswer}
 use Rattle.rules.proofs.TestLaws.{between-low, between-high}
 use Rattle.rules.proofs.LoadLaws.{Ending, done, ahead, forFile, load-ends}
-use Rattle.rules.proofs.OrderLaws.{load-without-work, load-wrong-length, load-damaged, load-broken, load-frozen, force-broken, base-broken, end-broken}
+use Rattle.rules.proofs.OrderLaws.{load-without-work, load-wrong-length, load-damaged, load-lent, load-broken, load-frozen, force-broken, base-broken, end-broken}
 use Rattle.rules.proofs.CallLaws.{end-cases}
 use Rattle.state.specs.Layout.{encode, lent, cellsAfter}
 use Rattle.state.specs.Promise.{Called, Ended}
@@ -50,20 +50,17 @@ stopped-keeps cells o e z =
 broken-keeps : (cells : List ℕ) (s : State) (o : Outcome LoadAnswer) → cells ≡ encode s → 6 ≤ o .answer .number →
     o .left ≡ now (marked broken s) → Kept cells o
 unfolding cellsAfter
-broken-keeps cells s o e k l z =
-    ( (λ i other.
-    ap (λ (x : Left). getD (cellsAfter cells x) i 0) l
-    ∙ marked-cells broken s i other
-    ∙ ap (λ (x : List ℕ). getD x i 0) (sym e))
-    , (λ few. absurd (omega arith)))
+broken-keeps cells s o e k l z = (
+  (λ i other.
+      ap (λ (x : Left). getD (cellsAfter cells x) i 0) l
+      ∙ marked-cells broken s i other
+      ∙ ap (λ (x : List ℕ). getD x i 0) (sym e)),
+  (λ few. absurd (omega arith)),
+)
 
--- a load that is stopped: its number, and what it leaves
-module _ {o : Outcome LoadAnswer} (k : ℕ) (e : o ≡ loadStopped k) where
-  number-is : o .answer .number ≡ k
-  number-is = ap (λ (x : Outcome LoadAnswer). x .answer .number) e
-
-  left-is : o .left ≡ asBefore
-  left-is = ap (λ (x : Outcome LoadAnswer). x .left) e
+-- a load that is stopped leaves everything
+left-is : {o : Outcome LoadAnswer} (k : ℕ) → o ≡ loadStopped k → o .left ≡ asBefore
+left-is k e = ap (λ (x : Outcome LoadAnswer). x .left) e
 
 lent-keeps : (cells : List ℕ) (m : Lent) (fits : Bool) (file : List ℕ) → lent cells ≡ m → Kept cells (load m fits file)
 lent-keeps cells wrongLength fits file e = stopped-keeps cells (load wrongLength fits file) (left-is 1 (load-wrong-length fits file))
@@ -82,20 +79,14 @@ module _ (cells work file : List ℕ) (r : LoadAnswer) (after : List ℕ) (c : C
   refused-keeps z =
       let o = load (lent cells) (workFits work) file in
       let n : o .answer .number ≡ r .number = sym (ap (λ (a : LoadAnswer). a .number) (c .answer)) in
-      let kept = lent-keeps cells (lent cells) (workFits work) file refl (λ e. z (sym n ∙ e)) in
-      ( (λ i other. ap (λ (l : List ℕ). getD l i 0) (c .cells) ∙ kept .0 i other)
-      , (λ few. c .cells ∙ kept .1 (omega (arith, n))))
+      let kept = lent-keeps cells (lent cells) (workFits work) file refl (λ e. z (sym n ∙ e)) in (
+        (λ i other. ap (λ (l : List ℕ). getD l i 0) (c .cells) ∙ kept .0 i other),
+        (λ few. c .cells ∙ kept .1 (omega (arith, n))),
+      )
 
 -- ---- behind a load that was refused for its file
 
--- such a load was lent a sound state, and work memory of its length
-refused-lent : (m : Lent) (fits : Bool) (file : List ℕ) → 6 ≤ load m fits file .answer .number → (s : State) × (m ≡ holding s) × (fits ≡ true)
-refused-lent m false file six = absurd (omega (arith, number-is 1 (load-without-work m file)))
-refused-lent wrongLength true file six = absurd (omega (arith, number-is 1 (load-wrong-length true file)))
-refused-lent damaged true file six = absurd (omega (arith, number-is 2 (load-damaged file)))
-refused-lent (holding s) true file six = (s, refl, refl)
-
--- and leaves it broken
+-- such a load leaves the state that it was lent broken
 refused-left : (s : State) (fits : Bool) (file : List ℕ) → 6 ≤ load (holding s) fits file .answer .number → load (holding s) fits file .left ≡ now (marked broken s)
 refused-left s fits file six = go (load-ends s fits file)
   where
@@ -121,7 +112,7 @@ module _ (cells work file : List ℕ) (r : LoadAnswer) (after : List ℕ)
   number = sym (ap (λ (a : LoadAnswer). a .number) (c .answer))
 
   before : (s : State) × (lent cells ≡ holding s) × (workFits work ≡ true)
-  before = refused-lent (lent cells) (workFits work) file (omega (arith, number))
+  before = load-lent (lent cells) (workFits work) file (λ _. omega (arith, number))
 
   pub refused-fits : workFits work ≡ true
   refused-fits = before .2
@@ -166,9 +157,10 @@ module _ (cells : List ℕ) (b : BrokenCells cells) where
 
   pub end-shut : (out : List ℕ) (r : EndAnswer) (after written : List ℕ) → Ended (end (lent cells) out) cells r after written → (r ≡ endAnswer 3 0) × (written ≡ out)
   end-shut out r after written e =
-      let is : end (lent cells) out ≡ endStopped 3 out = ap (λ m. end m out) (b .held) ∙ end-broken (b .state) out (b .mark) in
-      ( e .call .answer ∙ ap (λ (o : EndOutcome). o .call .answer) is
-      , e .output ∙ ap (λ (o : EndOutcome). o .output) is)
+      let is : end (lent cells) out ≡ endStopped 3 out = ap (λ m. end m out) (b .held) ∙ end-broken (b .state) out (b .mark) in (
+        e .call .answer ∙ ap (λ (o : EndOutcome). o .call .answer) is,
+        e .output ∙ ap (λ (o : EndOutcome). o .output) is,
+      )
 
 -- ---- work memory
 

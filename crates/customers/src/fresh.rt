@@ -59,10 +59,7 @@ pub fn link(state: &mut [u64], work: &mut [u64], file: &[u8], out: &mut [u8]) ->
     lnk100_reset(state);
     let load = lnk100_load(state, work, file);
     let end = lnk100_end(state, out);
-    LinkAnswers {
-        load,
-        end,
-    }
+    LinkAnswers { load, end }
 }
 
 // Two links of one file.
@@ -72,7 +69,14 @@ pub struct TwoLinks {
 }
 
 // Last week's card and this week's: two memories that held different things, and one file. Answers, images and states are equal.
-pub fn link_two(first: &mut [u64], second: &mut [u64], work: &mut [u64], file: &[u8], out: &mut [u8], again: &mut [u8]) -> TwoLinks
+pub fn link_two(
+    first: &mut [u64],
+    second: &mut [u64],
+    work: &mut [u64],
+    file: &[u8],
+    out: &mut [u8],
+    again: &mut [u8],
+) -> TwoLinks
     ensures { λ r. ⌜ (HasLength (now (first .entry)) → HasLength (now (second .entry)) → now (out .entry) ≡ now (again .entry) → SameLinks (r .first .load) (r .second .load) (r .first .end) (r .second .end) (now (first .exit)) (now (second .exit)) (now (out .exit)) (now (again .exit))) ⌝ }
 {
     let a = link(first, work, file, out);

@@ -20,8 +20,5 @@ pub fn end_twice(state: &mut [u64], out: &mut [u8], again: &mut [u8]) -> TwoEnds
 {
     let first = lnk100_end(state, out);
     let second = lnk100_end(state, again);
-    TwoEnds {
-        first,
-        second,
-    }
+    TwoEnds { first, second }
 }

@@ -22,8 +22,5 @@ pub fn load_then_list(state: &mut [u64], work: &mut [u64], file: &[u8], index: u
 {
     let load = lnk100_load(state, work, file);
     let symbol = lnk100_symbols(state, index);
-    LoadThenList {
-        load,
-        symbol,
-    }
+    LoadThenList { load, symbol }
 }

@@ -21,10 +21,7 @@ pub fn force_then_list(state: &mut [u64], name: &[u8]) -> ForceThenList
     lnk100_reset(state);
     let force = lnk100_force(state, name);
     let listed = lnk100_undefined(state, 0);
-    ForceThenList {
-        force,
-        listed,
-    }
+    ForceThenList { force, listed }
 }
 
 // A BASE, and HIGH behind it.
@@ -39,8 +36,5 @@ pub fn base_then_ask(state: &mut [u64], address: u64) -> BaseThenAsk
     lnk100_reset(state);
     let base = lnk100_base(state, address);
     let asked = lnk100_memory(state);
-    BaseThenAsk {
-        base,
-        asked,
-    }
+    BaseThenAsk { base, asked }
 }

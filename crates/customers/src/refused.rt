@@ -24,10 +24,7 @@ pub fn load_again(state: &mut [u64], work: &mut [u64], file: &[u8], other: &[u8]
 {
     let first = lnk100_load(state, work, file);
     let second = lnk100_load(state, work, other);
-    LoadAgain {
-        first,
-        second,
-    }
+    LoadAgain { first, second }
 }
 
 // A load, and a call that answers a number alone.
@@ -42,10 +39,7 @@ pub fn force_after(state: &mut [u64], work: &mut [u64], file: &[u8], name: &[u8]
 {
     let load = lnk100_load(state, work, file);
     let call = lnk100_force(state, name);
-    CallAfter {
-        load,
-        call,
-    }
+    CallAfter { load, call }
 }
 
 // So is any BASE.
@@ -54,10 +48,7 @@ pub fn base_after(state: &mut [u64], work: &mut [u64], file: &[u8], address: u64
 {
     let load = lnk100_load(state, work, file);
     let call = lnk100_base(state, address);
-    CallAfter {
-        load,
-        call,
-    }
+    CallAfter { load, call }
 }
 
 // A load and an END.
@@ -72,20 +63,19 @@ pub fn end_after(state: &mut [u64], work: &mut [u64], file: &[u8], out: &mut [u8
 {
     let load = lnk100_load(state, work, file);
     let end = lnk100_end(state, out);
-    LoadAndEnd {
-        load,
-        end,
-    }
+    LoadAndEnd { load, end }
 }
 
 // Once END is done, a load is refused by 4.
-pub fn load_after_end(state: &mut [u64], work: &mut [u64], file: &[u8], out: &mut [u8]) -> LoadAndEnd
+pub fn load_after_end(
+    state: &mut [u64],
+    work: &mut [u64],
+    file: &[u8],
+    out: &mut [u8],
+) -> LoadAndEnd
     ensures { λ r. ⌜ (r .end .number ≡ 0 → length (now (work .entry)) ≡ workSize → r .load ≡ loadAnswer 4 0 0) ⌝ }
 {
     let end = lnk100_end(state, out);
     let load = lnk100_load(state, work, file);
-    LoadAndEnd {
-        load,
-        end,
-    }
+    LoadAndEnd { load, end }
 }

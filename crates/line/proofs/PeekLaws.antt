@@ -13,7 +13,7 @@ use Rattle.rules.specs.Text.{Field, fieldsFrom, fieldsOf}
 use Rattle.rules.specs.Line.{firstText, starred, textAt}
 use Rattle.rules.specs.Text.{sameText}
 use Rattle.text.specs.Scan.{part, InFile}
-use Rattle.text.specs.FieldBounds.{fieldStart, fieldStop, first, NextField}
+use Rattle.text.specs.FieldBounds.{fieldStart, fieldStop, first, NextField, PartOf}
 use Rattle.text.proofs.FieldLaws.{field, next-field, field-found, no-field, start-least, start-most, stop-most}
 use Rattle.text.proofs.ScanLaws.{part-nil, part-cons}
 use Rattle.line.specs.Fitting.{lineFields, FieldPassed}
@@ -109,6 +109,16 @@ module _ (i stop s : ℕ) (l : List ℕ) (h : InFile i stop l) (e : s ≡ fieldS
                 ∙ text-none k
                 ∙ sym (ap (λ (fs : List Field). textAt fs k) (fields-none _ (s + length t) stop l (omega arith)));
           }
+
+-- and it is a part of the file
+pub next-part : {at stop : ℕ} {file r : RefT (List ℕ)} → NextField at stop file r → PartOf file r
+next-part {at} {stop} {file} n =
+    record {
+      from = fieldStart at stop (now file);
+      to = fieldStop at stop (now file);
+      bytes = n .bytes;
+      position = n .position;
+    }
 
 module _ {at second third stop : ℕ} {file r : RefT (List ℕ)} where
   pub third-text : FieldPassed at stop (now file) second → FieldPassed second stop (now file) third → NextField third stop file r →

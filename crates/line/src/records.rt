@@ -19,6 +19,7 @@ ghost use mathlib.Core.Path.{_≡_};
 ghost use Rattle.rules.specs.Text.{numberOf};
 ghost use Rattle.rules.specs.Line.{starred, codeLine, isOne, textAt, entryLine};
 ghost use Rattle.text.specs.Scan.{InFile};
+ghost use Rattle.text.specs.FieldBounds.{PartOf};
 ghost use Rattle.line.specs.Fitting.{endColumn, lineFields, FieldPassed};
 
 // A code record without an asterisk: four quarters. Most lines of a file are such, so they have a loop of their own.
@@ -90,9 +91,10 @@ fn past_field(file: &[u8], at: usize, stop: usize) -> usize
     start + next_field(file, start, stop).len()
 }
 
+// The third field of the line, as that part of the file.
 fn third_field<'a>(file: &'a [u8], at: usize, stop: usize) -> &'a [u8]
     requires { ⌜ InFile at stop (now file) ⌝ }
-    ensures { λ r. ⌜ now r ≡ textAt (lineFields at stop (now (file .entry))) 2 ⌝ }
+    ensures { λ r. ⌜ PartOf (file .entry) r × (now r ≡ textAt (lineFields at stop (now (file .entry))) 2) ⌝ }
 {
     let second = past_field(file, at, stop);
     let third = past_field(file, second, stop);

@@ -8,12 +8,10 @@ use rules::answer::UndefinedAnswer;
 use state::layout::SIZE;
 use tables::cells::PART_ROOM;
 ghost use mathlib.Core.Path.{_≡_};
-ghost use lib.ListN.{length};
-ghost use lib.Dec.{eqb};
-ghost use Rattle.rules.specs.Limits.{workSize};
-ghost use Rattle.rules.specs.Calls.{load, workAfter, reset, base, force, end, memory, symbols, undefined};
+ghost use Rattle.rules.specs.Calls.{load, reset, base, force, end, memory, symbols, undefined};
+ghost use Rattle.rules.specs.History.{workFits};
 ghost use Rattle.state.specs.Layout.{lent};
-ghost use Rattle.state.specs.Promise.{Called, Ended};
+ghost use Rattle.state.specs.Promise.{Called, LoadCalled, Ended};
 
 // The fixed lengths of state and work memory.
 pub const STATE_CELLS: usize = SIZE;
@@ -22,7 +20,7 @@ pub const WORK_CELLS: usize = PART_ROOM;
 
 #[no_mangle]
 pub extern "C" fn lnk100_load(state: &mut [u64], work: &mut [u64], file: &[u8]) -> LoadAnswer
-    ensures { λ r. ⌜ Called (load (lent (now (state .entry))) (eqb (length (now (work .entry))) workSize) (now (file .entry))) (now (state .entry)) r (now (state .exit)) × (now (work .exit) ≡ workAfter workSize (now (work .entry))) ⌝ }
+    ensures { λ r. ⌜ LoadCalled (load (lent (now (state .entry))) (workFits (now (work .entry))) (now (file .entry))) (now (state .entry)) (now (work .entry)) r (now (state .exit)) (now (work .exit)) ⌝ }
 {
     loading::load(state, work, file)
 }

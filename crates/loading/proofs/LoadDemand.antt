@@ -24,7 +24,8 @@ module _ (cells work file : List ℕ) (r : LoadAnswer) (left : List ℕ)
     (c : Called (load (lent cells) (workFits work) file) cells r left) (z : r .number ≡ 0) where
   -- what an accepted load was lent
   lent-sound : (s : State) × (lent cells ≡ holding s) × (workFits work ≡ true)
-  lent-sound = load-lent (lent cells) (workFits work) file (sym (ap (λ (a : LoadAnswer). a .number) (c .answer)) ∙ z)
+  lent-sound =
+      load-lent (lent cells) (workFits work) file (λ some. absurd (omega (arith, ap (λ (a : LoadAnswer). a .number) (c .answer), z)))
 
   -- so its outcome is that of a load from that state
   module _ (s : State) (h : lent cells ≡ holding s) where

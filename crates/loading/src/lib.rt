@@ -19,16 +19,16 @@ use walking::walk;
 ghost use Prim.Native.Nat.{_≤_};
 ghost use mathlib.Core.Path.{_≡_};
 ghost use lib.ListN.{length};
-ghost use lib.Dec.{eqb};
 ghost use Rattle.rules.specs.Limits.{longestFile, workSize};
 ghost use Rattle.rules.specs.Load.{walked, walkFrom, loadFile};
-ghost use Rattle.rules.specs.Calls.{loadAnswer, loadOutcome, loadLent, load as load-outcome, workAfter};
+ghost use Rattle.rules.specs.Calls.{loadAnswer, loadOutcome, loadLent, load as load-outcome};
+ghost use Rattle.rules.specs.History.{workFits};
 ghost use Rattle.rules.proofs.TestLaws.{Every};
 ghost use Rattle.rules.proofs.ReadingLaws.{ItemSound};
 ghost use Rattle.tables.specs.Tables.{mostCells, itemsIn};
 ghost use Rattle.state.specs.Layout.{lent, decode};
 ghost use Rattle.state.specs.Good.{Good};
-ghost use Rattle.state.specs.Promise.{Called};
+ghost use Rattle.state.specs.Promise.{Called, LoadCalled};
 
 // The fixed length of work memory, which holds the parts of a file's modules.
 const WORK_CELLS: usize = PART_ROOM;
@@ -100,7 +100,7 @@ fn load_tested(state: &mut [u64], work: &mut [u64], file: &[u8]) -> LoadAnswer
 
 // LOAD. Work memory of the right length is zero afterwards.
 pub fn load(state: &mut [u64], work: &mut [u64], file: &[u8]) -> LoadAnswer
-    ensures { λ r. ⌜ Called (load-outcome (lent (now (state .entry))) (eqb (length (now (work .entry))) workSize) (now (file .entry))) (now (state .entry)) r (now (state .exit)) × (now (work .exit) ≡ workAfter workSize (now (work .entry))) ⌝ }
+    ensures { λ r. ⌜ LoadCalled (load-outcome (lent (now (state .entry))) (workFits (now (work .entry))) (now (file .entry))) (now (state .entry)) (now (work .entry)) r (now (state .exit)) (now (work .exit)) ⌝ }
 {
     if work.len() != WORK_CELLS {
         return answer(BUFFER, 0, 0);

@@ -258,3 +258,12 @@ demand-3 s t file good done left =
   where
     now-same : {a b : State} → now a ≡ now b → a ≡ b
     now-same e = cc
+
+-- of a file that is one library: the modules that its search takes are the least sufficient set, and the load leaves what that search
+-- ends in
+pub library-least : (s t : State) (file : List ℕ) (line : ℕ) (ms : List Module) → LeastAtEach s file t → itemsOf file ≡ section line ms ∷ [] →
+    LeastSufficient (s .symbols) ms (searched ms (walking s) .taken) × (t ≡ searched ms (walking s) .now .state)
+unfolding walkItems
+library-least s t file line ms d e =
+    let here : TakesLeast (walking s) ms (walkFrom s (section line ms ∷ []) .walk) = d .sections [] [] line ms e in
+    (here .least, d .ends ∙ ap (λ is. walkFrom s is .walk .state) e ∙ ap (λ (w : Walk). w .state) (here .goes-on))

@@ -41,13 +41,14 @@ pub load-damaged : (file : List ℕ) → load damaged true file ≡ loadStopped 
 unfolding load loadLent
 load-damaged file = refl
 
--- so LOAD answers 0 only where it is lent a sound state, and work memory of its length
-pub load-lent : (m : Lent) (fits : Bool) (file : List ℕ) → load m fits file .answer .number ≡ DONE → (s : State) × (m ≡ holding s) × (fits ≡ true)
+-- so LOAD answers no number but 1 to 5 unless it is lent a sound state, and work memory of its length
+pub load-lent : (m : Lent) (fits : Bool) (file : List ℕ) → let n = load m fits file .answer .number in
+    (1 ≤ n → 6 ≤ n) → (s : State) × (m ≡ holding s) × (fits ≡ true)
 unfolding load loadLent
-load-lent m false file z = absurd (omega arith)
-load-lent wrongLength true file z = absurd (omega arith)
-load-lent damaged true file z = absurd (omega arith)
-load-lent (holding s) true file z = (s, refl, refl)
+load-lent m false file h = absurd (omega (arith, h (omega arith)))
+load-lent wrongLength true file h = absurd (omega (arith, h (omega arith)))
+load-lent damaged true file h = absurd (omega (arith, h (omega arith)))
+load-lent (holding s) true file h = (s, refl, refl)
 
 module _ (s : State) (file : List ℕ) where
   pub load-broken : s .mark ≡ broken → load (holding s) true file ≡ loadStopped RESET

@@ -1,22 +1,26 @@
 -- Small runs that pin the definitions where P1 to P10 do not reach: a row for each sentence, all of them under one claim that antt
 -- computes. What stands to the right is worked out from document 01, with plain numbers.
-use Prim.Native.Nat.{ℕ, _-_}
+use Prim.Native.Nat.{ℕ, zero, suc, _-_, _^_}
 use Prim.Native.String.{String}
 use mathlib.Core.Bool.{Bool, true, false}
 use mathlib.Core.List.{List, [], _∷_, _++_}
 use mathlib.Core.Path.{_≡_, refl}
 use lib.ListN.{replicate}
 use Rattle.rules.specs.Text as Text
+use Rattle.rules.specs.Answers as Answers
 use Rattle.rules.specs.Line as Line
 use Rattle.rules.specs.Reading as Reading
 use Rattle.rules.specs.State as State
 use Rattle.rules.specs.Calls as Calls
 use Rattle.rules.specs.Image as Image
 use Rattle.rules.specs.Placing as Placing
+use Rattle.rules.specs.Search as Search
+use Rattle.rules.specs.Load as Load
 use Rattle.rules.specs.Text.{bytes, linesOf, packName}
+use Rattle.rules.specs.Answers.{answerName}
 use Rattle.rules.specs.Line.{lineAnswer}
 use Rattle.rules.specs.Reading.{readingOf}
-use Rattle.rules.specs.State.{symbol, plain, unplaced, refers, Mark, unmarked, broken, frozen, State, state, fresh, high, highest}
+use Rattle.rules.specs.State.{Symbol, symbol, Word, plain, unplaced, refers, Mark, unmarked, broken, frozen, State, state, fresh, high, highest, sound}
 use Rattle.rules.specs.Calls.{wrongLength, damaged, holding, Left, asBefore, now, Outcome, outcome, workAfter, load, force, base, reset, memory, symbols, undefined, end}
 use Rattle.rules.specs.declared.line.FaultKind.{FaultKind}
 use Rattle.rules.specs.declared.line.FaultKind.the-variants.{IllegalByte, BadMarker, FieldCount, BadNumber, BadName, BadType}
@@ -73,6 +77,35 @@ file text = readingOf (bytes text)
 abbrev linked : Mark → State
 linked k =
     state (symbol (name "A") 5 true ∷ symbol (name "B") 0 false ∷ []) (refers 7 1 ∷ plain 1 ∷ refers 8 1 ∷ unplaced ∷ []) 3 k
+
+-- a module around these lines
+abbrev module-of : String → List ℕ
+module-of text = bytes "3 ***TITLE\nM\n" ++ bytes text ++ bytes "1 ***END\nM\n"
+
+-- n times a text
+pub times : ℕ → List ℕ → List ℕ
+times zero text = []
+times (suc n) text = text ++ times n text
+
+-- a module with a block of n records, and more behind it
+abbrev entering : String → ℕ → String → String → List ℕ
+entering header n text more =
+    bytes "3 ***TITLE\nM\n" ++ bytes header ++ times n (bytes text) ++ bytes more ++ bytes "1 ***END\nM\n"
+
+-- a table of n symbols; that their names are alike does not matter here
+abbrev full : ℕ → State
+full n = state (replicate n (symbol (name "A") 0 true)) [] 0 unmarked
+
+-- what LOAD answers to a file, from no symbols and no words with this next address
+abbrev loaded : ℕ → List ℕ → LoadAnswer
+loaded n text = load (holding (state [] (replicate 4096 unplaced) n unmarked)) true text .answer
+
+abbrev answer : ℕ → ℕ → ℕ → LoadAnswer
+answer k n r = record { number = k; line = n; rounds = r }
+
+-- a state of 4,096 words whose first is this one
+abbrev whole : List Symbol → Word → ℕ → State
+whole t w n = state t (w ∷ replicate 4095 unplaced) n unmarked
 
 abbrev called : ℕ → Left → Outcome CallAnswer
 called k l = outcome (record { number = k; line = 0 }) l
@@ -149,8 +182,8 @@ Records =
     × (line SubRecord "1 ***END" ≡ fault BadNumber 3)
 
 -- "four numbers, the quarters; or an asterisk field, four quarters, then 0, type and arg"; types by their values
-abbrev Codewords : Type 0
-Codewords =
+abbrev CodeWords : Type 0
+CodeWords =
     (line CodeRecord "1 2 3 4" ≡ word 0x0001_0002_0003_0004 Plain)
     × (line CodeRecord "1 2 3" ≡ fault FieldCount 6)
     × (line CodeRecord "1 2 3 4 5" ≡ fault FieldCount 9)
@@ -184,6 +217,52 @@ Files =
     × (file "3 ***TITLE\nA\n1 ***END\nB\n" ≡ Stopped 7 4 0)
     × (file "8\n7 ***LEB\n" ≡ Stopped 6 1 1)
     × (file "7 ***LEB\n8\n" ≡ Stopped 7 1 0)
+
+-- 8 LIST, "told at that record or TITLE header", and FORCE's 14 TABLE
+abbrev Lists : Type 0
+Lists =
+    (readingOf (entering "4 100 ***ENTRY\n" 64 "A 0 0\n" "") ≡ Complete)
+    × (readingOf (entering "4 101 ***ENTRY\n" 65 "A 0 0\n" "") ≡ Stopped 8 68 0)
+    × (readingOf (entering "4 100 ***ENTRY\n" 64 "A 0 0\n" "13 1 ***AENTRY\nA 0 0\n") ≡ Stopped 8 69 0)
+    × (readingOf (entering "5 100 ***EXT\n" 64 "A\n" "") ≡ Complete)
+    × (readingOf (entering "5 101 ***EXT\n" 65 "A\n" "") ≡ Stopped 8 68 0)
+    × (readingOf (bytes "6 ***LSB\n" ++ times 256 (module-of "") ++ bytes "7 ***LEB\n") ≡ Complete)
+    × (readingOf (bytes "6 ***LSB\n" ++ times 257 (module-of "")) ≡ Stopped 8 1026 0)
+    × (force (holding (full 255)) (bytes "B") .answer ≡ record { number = 0; line = 0 })
+    × (force (holding (full 256)) (bytes "B") ≡ called 14 asBefore)
+    × (force (holding (full 256)) (bytes "A") ≡ called 0 (now (full 256)))
+
+-- the rounds, "summed over its sections", and 9 to 13 at the line of the TITLE header
+abbrev Walks : Type 0
+Walks =
+    (loaded 0 (bytes "6 ***LSB\n7 ***LEB\n") ≡ answer 0 0 1)
+    × (loaded 0 (bytes "6 ***LSB\n7 ***LEB\n6 ***LSB\n7 ***LEB\n") ≡ answer 0 0 2)
+    × (loaded 0 (module-of "0 1 7777 ***CODE\n1 2 3 4\n") ≡ answer 0 0 0)
+    × (loaded 0 (module-of "0 2 7777 ***CODE\n1 2 3 4\n1 2 3 4\n") ≡ answer 9 1 0)
+    × (loaded 0 (module-of "0 0 17777 ***CODE\n") ≡ answer 0 0 0)
+    × (loaded 0 (module-of "0 1 0 ***CODE\n1 2 3 4\n0 1 0 ***CODE\n1 2 3 4\n") ≡ answer 10 1 0)
+    × (loaded 0 (module-of "0 1 0 ***CODE\n* 0 0 0 0 0 5 0\n") ≡ answer 11 1 0)
+    × (loaded 0 (module-of "0 1 0 ***CODE\n* 0 0 0 0 0 5 2\n5 1 ***EXT\nX\n") ≡ answer 11 1 0)
+    × (loaded 0 (module-of "0 1 0 ***CODE\n* 0 0 0 0 0 5 1\n5 1 ***EXT\nX\n") ≡ answer 0 0 0)
+    × (loaded 0 (module-of "4 1 ***ENTRY\nA 177777 1 0\n") ≡ answer 0 0 0)
+    × (loaded 1 (module-of "4 1 ***ENTRY\nA 177777 1 0\n") ≡ answer 12 1 0)
+    × (loaded 1 (module-of "4 1 ***ENTRY\nA 177777 0\n") ≡ answer 0 0 0)
+    × (loaded 0 (module-of "4 1 ***ENTRY\nA 0 0\n13 1 ***AENTRY\nA 1 0\n") ≡ answer 13 1 0)
+    × (loaded 0 (module-of "4 1 ***ENTRY\nA 0 0\n" ++ module-of "4 1 ***ENTRY\nA 0 0\n") ≡ answer 13 7 0)
+
+-- "A state is sound if [..]": each clause broken alone
+abbrev Soundness : Type 0
+Soundness =
+    (sound (whole (symbol (name "A") 65535 true ∷ symbol (name "B") 0 false ∷ []) (refers (2 ^ 64 - 1) 1) 4096) ≡ true)
+    × (sound (whole (symbol (name "1A") 0 true ∷ []) unplaced 0) ≡ false)
+    × (sound (whole (symbol (name "A") 0 true ∷ symbol (name "A") 0 false ∷ []) unplaced 0) ≡ false)
+    × (sound (whole (symbol (name "A") 1 false ∷ []) unplaced 0) ≡ false)
+    × (sound (whole (symbol (name "A") 65536 true ∷ []) unplaced 0) ≡ false)
+    × (sound (whole (symbol (name "A") 0 true ∷ []) (refers 0 1) 0) ≡ false)
+    × (sound (whole [] (plain (2 ^ 64)) 0) ≡ false)
+    × (sound (whole (symbol (name "A") 0 true ∷ []) (refers (2 ^ 64) 0) 0) ≡ false)
+    × (sound (whole [] unplaced 4097) ≡ false)
+    × (sound (state [] (replicate 4095 unplaced) 0 unmarked) ≡ false)
 
 -- MEMORY, SYMBOLS and UNDEFINED
 abbrev Looking : Type 0
@@ -239,10 +318,32 @@ Marks =
     × (end (holding (linked frozen)) [] ≡ record { call = outcome (record { number = 16; line = 0; length = 0 }) asBefore; output = [] })
     × (end (holding (linked frozen)) (replicate 38 1) .call ≡ outcome (record { number = 0; line = 0; length = 38 }) (now (linked frozen)))
 
+-- the names of the answers, by number
+abbrev Names : Type 0
+Names =
+    (answerName 0 ≡ bytes "DONE")
+    × (answerName 1 ≡ bytes "BUFFER")
+    × (answerName 2 ≡ bytes "DAMAGED")
+    × (answerName 3 ≡ bytes "RESET")
+    × (answerName 4 ≡ bytes "FROZEN")
+    × (answerName 5 ≡ bytes "TOO LONG")
+    × (answerName 6 ≡ bytes "LINE")
+    × (answerName 7 ≡ bytes "PLACE")
+    × (answerName 8 ≡ bytes "LIST")
+    × (answerName 9 ≡ bytes "ROOM")
+    × (answerName 10 ≡ bytes "OVERLAP")
+    × (answerName 11 ≡ bytes "ARG")
+    × (answerName 12 ≡ bytes "RANGE")
+    × (answerName 13 ≡ bytes "DUPLICATE")
+    × (answerName 14 ≡ bytes "TABLE")
+    × (answerName 15 ≡ bytes "NAME")
+    × (answerName 16 ≡ bytes "OUT")
+    × (answerName 17 ≡ [])
+
 -- ---- the claim
 
-pub small-table : Lines × Bytes × Headers × Records × Codewords × Files × Looking × Lengths × Marks
-unfolding Text.bytes Text.all Text.any Text.widenLine Text.cutLines Text.withoutEnd Text.linesOf Text.legalFront Text.startsField Text.widenField Text.addToFields Text.fieldsFrom Text.fieldsOf Text.octal Text.isNumber Text.numberOf Text.isName Text.packName Text.nameOf Text.upToZero Text.unpackName Text.isPacked Line.headers Line.rowIn Line.rowOf Line.markerIn Text.sameText Line.held Line.inBounds Line.readField Line.inFront Line.fit Line.said Line.readAs Line.recordShape Line.codeLine Line.entryLine Line.sayHeader Line.rowAt Line.firstText Line.headerLine Line.isOne Line.textAt Line.fieldsSay Line.lineOf Line.faultWithin Line.testBytes Line.lineAnswer Reading.atStart Reading.expect Reading.expectRecords Reading.recordDone Reading.expectSubs Reading.titleHeader Reading.enterModule Reading.leaveModule Reading.enterSection Reading.leaveSection Reading.countEntry Reading.countExternal Reading.titleStep Reading.libraryStep Reading.libraryEndStep Reading.headerStep Reading.closingStep Reading.entryStep Reading.externalStep Reading.parameterStep Reading.subStep Reading.stepOf Reading.unread Reading.moduleDone Reading.stepped Reading.ifComplete Reading.readLine Reading.readLines Reading.isHeader Reading.atEnd Reading.readingOf Reading.itemsOf State.noWords State.fresh State.isSymbol State.isDefined State.isUndefined State.positionOf State.undefinedOnly State.placedWords State.highestFrom State.highest State.high State.soundSymbol State.differentNames State.soundWord State.sound Calls.workAfter Calls.shutBy Calls.loadState Calls.loadLent Calls.load Calls.forceState Calls.force Calls.baseState Calls.base Calls.reset Calls.memory Calls.symbolAt Calls.symbols Calls.undefinedAt Calls.undefined Calls.isBroken Calls.endState Calls.end Image.valueOf Image.completed Image.two Image.quarters Image.wordRecord Image.recordOf Image.recordsFrom Image.endRecord Image.imageOf Placing.mention
+pub small-table : Lines × Bytes × Headers × Records × CodeWords × Files × Lists × Walks × Soundness × Looking × Lengths × Marks × Names
+unfolding times Text.bytes Text.all Text.any Text.widenLine Text.cutLines Text.withoutEnd Text.linesOf Text.legalFront Text.startsField Text.widenField Text.addToFields Text.fieldsFrom Text.fieldsOf Text.octal Text.isNumber Text.numberOf Text.isName Text.packName Text.nameOf Text.upToZero Text.unpackName Text.isPacked Line.headers Line.rowIn Line.rowOf Line.markerIn Text.sameText Line.held Line.inBounds Line.readField Line.inFront Line.fit Line.said Line.readAs Line.recordShape Line.codeLine Line.entryLine Line.sayHeader Line.rowAt Line.firstText Line.headerLine Line.isOne Line.textAt Line.fieldsSay Line.lineOf Line.faultWithin Line.testBytes Line.lineAnswer Reading.atStart Reading.expect Reading.expectRecords Reading.recordDone Reading.expectSubs Reading.titleHeader Reading.enterModule Reading.leaveModule Reading.enterSection Reading.leaveSection Reading.countEntry Reading.countExternal Reading.titleStep Reading.libraryStep Reading.libraryEndStep Reading.headerStep Reading.closingStep Reading.entryStep Reading.externalStep Reading.parameterStep Reading.subStep Reading.stepOf Reading.unread Reading.moduleDone Reading.stepped Reading.ifComplete Reading.readLine Reading.readLines Reading.isHeader Reading.atEnd Reading.readingOf Reading.itemsOf State.noWords State.fresh State.isSymbol State.isDefined State.isUndefined State.positionOf State.undefinedOnly State.placedWords State.highestFrom State.highest State.high State.soundSymbol State.differentNames State.soundWord State.sound Placing.entriesIn Placing.externalsIn Placing.codeIn Placing.lengthIn Placing.countIn Placing.valueAt Placing.define Placing.mention Placing.defineAll Placing.mentionAll Placing.joined Placing.linked Placing.putAll Placing.noRoom Placing.overlaps Placing.badArgument Placing.badArguments Placing.outOfRange Placing.twice Placing.duplicates Placing.tableFull Placing.placingFault Placing.placed Search.noModules Search.withModule Search.visit Search.sweep Search.round Search.rounds Search.search Load.tryPlace Load.place Load.entryNames Load.isNeeded Load.takes Load.searched Load.sectionNames Load.testSection Load.walkItem Load.walkItems Load.walked Load.loadRead Load.loadFile Image.valueOf Image.completed Image.two Image.quarters Image.wordRecord Image.recordOf Image.recordsFrom Image.endRecord Image.imageOf Calls.workAfter Calls.shutBy Calls.loadState Calls.loadLent Calls.load Calls.forceState Calls.force Calls.baseState Calls.base Calls.reset Calls.memory Calls.symbolAt Calls.symbols Calls.undefinedAt Calls.undefined Calls.isBroken Calls.endState Calls.end Answers.answers Answers.nameIn Answers.answerName
 small-table = (
   (refl, refl, refl, refl, refl),
   (refl, refl, refl, refl, refl, refl, refl, refl, refl),
@@ -251,6 +352,10 @@ small-table = (
   (refl, refl, refl, refl, refl, refl, refl, refl, refl, refl, refl, refl, refl),
   (refl, refl, refl, refl, refl, refl, refl, refl, refl, refl, refl, refl, refl, refl, refl, refl),
   (refl, refl, refl, refl, refl, refl, refl, refl, refl, refl),
+  (refl, refl, refl, refl, refl, refl, refl, refl, refl, refl, refl, refl, refl, refl),
+  (refl, refl, refl, refl, refl, refl, refl, refl, refl, refl),
+  (refl, refl, refl, refl, refl, refl, refl, refl, refl, refl),
   (refl, refl, refl, refl, refl, refl, refl, refl, refl, refl, refl, refl, refl, refl, refl, refl, refl, refl, refl),
   (refl, refl, refl, refl, refl, refl, refl, refl, refl, refl, refl, refl, refl),
+  (refl, refl, refl, refl, refl, refl, refl, refl, refl, refl, refl, refl, refl, refl, refl, refl, refl, refl),
 )

@@ -7,7 +7,6 @@ use mathlib.Core.Path.{_≡_, refl, sym, ap, ap₂, subst, _∙_}
 use lib.ListN.{length}
 use lib.Dec.{eqb}
 use borrow.Author.Tests.{eq-eqb}
-use Rattle.rules.specs.Limits.{workSize}
 use Rattle.rules.specs.State.{State, fresh, sound}
 use Rattle.rules.specs.Calls.{Lent, wrongLength, damaged, holding, Left, asBefore, now, Outcome, EndOutcome, workAfter, load, force, base, reset, memory, symbols, undefined, end}
 use Rattle.rules.specs.History.{Call, loading, forcing, basing, resetting, askingHigh, listing, listingUndefined, ending, Reply, ofLoad, ofCall, ofMemory, ofSymbols, ofUndefined, ofEnd, workFits, replyTo, leftBy, stateAfter, called, calledAll}
@@ -19,16 +18,17 @@ use Rattle.rules.specs.declared.answer.UndefinedAnswer.{UndefinedAnswer}
 use Rattle.rules.specs.declared.answer.EndAnswer.{EndAnswer}
 use Rattle.rules.proofs.SoundCalls.{called-sound}
 use Rattle.state.specs.Layout.{size, soundCells, encode, decode, lent, cellsAfter}
-use Rattle.state.specs.Promise.{Called, Ended}
+use Rattle.state.specs.Promise.{Called, LoadCalled, Ended}
 use Rattle.state.specs.Sequence.{cellsCalled, Replied, Run, stop, step}
 use Rattle.state.proofs.LentLaws.{held-sound, lent-encode}
 
 -- ---- each call's own promise is the promise of any call
 
 module _ (cells after : List ℕ) where
-  pub load-replied : (work file : List ℕ) (r : LoadAnswer) (left : List ℕ) → Called (load (lent cells) (workFits work) file) cells r after → left ≡ workAfter workSize work → Replied cells (loading work file) (ofLoad r left) after
+  pub load-replied : (work file : List ℕ) (r : LoadAnswer) (left : List ℕ) → LoadCalled (load (lent cells) (workFits work) file) cells work r after left → Replied cells (loading work file) (ofLoad r left) after
   unfolding replyTo cellsCalled leftBy
-  load-replied work file r left c w = record { reply = ap₂ {C = Reply} ofLoad (c .answer) w; cells = c .cells }
+  load-replied work file r left c =
+      record { reply = ap₂ {C = Reply} ofLoad (c .call .answer) (c .work-left); cells = c .call .cells }
 
   pub force-replied : (name : List ℕ) (r : CallAnswer) → Called (force (lent cells) name) cells r after → Replied cells (forcing name) (ofCall r) after
   unfolding replyTo cellsCalled leftBy

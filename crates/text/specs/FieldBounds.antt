@@ -37,3 +37,10 @@ pub record NextField (at stop : ℕ) (file r : RefT (List ℕ)) : Type 0 where
       ≡ first
       (record { column = c + (fieldStart at stop (now file) - at); text = now r })
       (fieldsFrom (c + (fieldStop at stop (now file) - at)) (part (fieldStop at stop (now file)) stop (now file)))
+
+-- r is a part of the file itself: it has the bytes between two of its positions, and lies where they lie
+pub record PartOf (file r : RefT (List ℕ)) : Type 0 where
+  pub from : ℕ
+  pub to : ℕ
+  pub bytes : now r ≡ part from to (now file)
+  pub position : ptr r ≡ onward from (ptr file)

@@ -1,6 +1,7 @@
 use Prim.Native.Nat.{_-_}
 use native.Mathlib.Omega.{arith}
-use Rattle.cells.proofs.CellLaws.{Cleared, cleared-start, cleared-step, cleared-end}
+use Rattle.cells.proofs.CellLaws.{Cleared, cleared-step, cleared-end}
+use borrow.Author.Needs.{needs}
 use Rattle.cells.proofs.clear.Statement.{statement}
 use Rattle.cells.proofs.clear.Tie as tie
 use Rattle.cells.proofs.clear.Reads as reads
@@ -13,25 +14,25 @@ abbrev μ-loop : tie.MeasureT-loop
 μ-loop target₀ n i₀ target i = n - i
 
 loop-holds : tie.Need-loop-holds Inv-loop μ-loop
-loop-holds c = cleared-start (c .args .target .now) (c .args .n) (c .pre)
+loop-holds c = search needs
 
 mul-target : tie.Need-mul-target Inv-loop μ-loop
-mul-target c = omega (arith, c .before .loop .inv .size, c .before .loop .inv .room)
+mul-target c = search needs
 
 slice-write-target : tie.Need-slice-write-target Inv-loop μ-loop
-slice-write-target c = omega (arith, c .before .loop .inv .size, c .before .loop .inv .room)
+slice-write-target c = search needs
 
 add-i : tie.Need-add-i Inv-loop μ-loop
-add-i c = omega (arith, c .before .loop .inv .room)
+add-i c = search needs
 
 loop-less : tie.Need-loop-less Inv-loop μ-loop
-loop-less c = omega arith
+loop-less c = search needs
 
 loop-again : tie.Need-loop-again Inv-loop μ-loop
 loop-again c = cleared-step (c .before .before .args .target .now) (c .before .before .args .n) (c .before .loop .target) (c .before .loop .i) (c .before .loop .inv) (omega arith)
 
 same-length : tie.Need-same-length Inv-loop μ-loop
-same-length c = c .before .loop .inv .size
+same-length c = search needs
 
 returns : tie.Need-returns Inv-loop μ-loop
 returns c = cleared-end (c .before .before .args .target .now) (c .before .before .args .n) (c .before .loop .target) (c .before .loop .i) (c .before .loop .inv) (omega arith)

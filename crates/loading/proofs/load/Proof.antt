@@ -12,7 +12,11 @@ answer-requires : tie.Need-answer-requires
 answer-requires c κs = search needs
 
 returns : tie.Need-returns
-returns c = (load-room (c .before .before .before .before .before .args .state .now) (c .before .before .before .before .before .args .work .now) (c .before .before .before .before .before .args .file .now) (c .answer .result) (c .before .before .before .before .before .args .state .now) (c .before .if1 .taken) (c .answer .ensures), work-kept (c .before .before .before .before .before .args .work .now) (c .before .if1 .taken))
+returns c =
+    record {
+      call = load-room (c .before .before .before .before .before .args .state .now) (c .before .before .before .before .before .args .work .now) (c .before .before .before .before .before .args .file .now) (c .answer .result) (c .before .before .before .before .before .args .state .now) (c .before .if1 .taken) (c .answer .ensures);
+      work-left = work-kept (c .before .before .before .before .before .args .work .now) (c .before .if1 .taken);
+    }
 
 load-tested-requires : tie.Need-load-tested-requires
 load-tested-requires c κs = search needs
@@ -27,7 +31,11 @@ same-length-2 : tie.Need-same-length-2
 same-length-2 c = search needs
 
 returns-2 : tie.Need-returns-2
-returns-2 c = (load-whole (c .before .before .before .before .before .before .before .before .before .before .before .before .before .before .before .args .state .now) (c .before .before .before .before .before .before .before .before .before .before .before .before .before .before .before .args .work .now) (c .before .before .before .before .before .before .before .before .before .before .before .before .before .before .before .args .file .now) (c .before .before .before .before .before .before .before .before .load-tested .result) _ (c .before .before .before .before .before .before .before .before .before .before .before .if1 .left) (c .before .before .before .before .before .before .before .before .load-tested .ensures), work-cleared (c .before .before .before .before .before .before .before .before .before .before .before .before .before .before .before .args .work .now) (c .before .before .before .before .before .before .before .before .load-tested .last .1 .0) _ (c .before .before .before .before .before .before .before .before .before .before .before .if1 .left) (search needs) (c .before .before .clear .ensures))
+returns-2 c =
+    record {
+      call = load-whole (c .before .before .before .before .before .before .before .before .before .before .before .before .before .before .before .args .state .now) (c .before .before .before .before .before .before .before .before .before .before .before .before .before .before .before .args .work .now) (c .before .before .before .before .before .before .before .before .before .before .before .before .before .before .before .args .file .now) (c .before .before .before .before .before .before .before .before .load-tested .result) _ (c .before .before .before .before .before .before .before .before .before .before .before .if1 .left) (c .before .before .before .before .before .before .before .before .load-tested .ensures);
+      work-left = work-cleared (c .before .before .before .before .before .before .before .before .before .before .before .before .before .before .before .args .work .now) (c .before .before .before .before .before .before .before .before .load-tested .last .1 .0) _ (c .before .before .before .before .before .before .before .before .before .before .before .if1 .left) (search needs) (c .before .before .clear .ensures);
+    }
 
 pub load-spec : {M : Type 1} → statement M
 load-spec =

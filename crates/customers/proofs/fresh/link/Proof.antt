@@ -27,7 +27,7 @@ same-length-3 : tie.Need-same-length-3
 same-length-3 c = search needs
 
 returns : tie.Need-returns
-returns c = linked (c .before .before .before .before .before .before .before .before .before .before .before .before .before .before .before .before .lnk100-reset .ensures) (c .before .before .before .before .before .before .before .before .before .before .before .lnk100-load .ensures .0) (c .before .before .before .before .before .before .before .before .before .before .before .lnk100-load .ensures .1) (c .before .before .before .before .lnk100-end .ensures)
+returns c = linked (c .before .before .before .before .before .before .before .before .before .before .before .before .before .before .before .before .lnk100-reset .ensures) (c .before .before .before .before .before .before .before .before .before .before .before .lnk100-load .ensures) (c .before .before .before .before .lnk100-end .ensures)
 
 pub link-spec : {M : Type 1} → statement M
 link-spec =

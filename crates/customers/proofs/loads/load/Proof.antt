@@ -16,7 +16,7 @@ same-length-2 : tie.Need-same-length-2
 same-length-2 c = search needs
 
 returns : tie.Need-returns
-returns c = load-kept (c .before .before .before .before .before .before .before .before .before .before .args .state .now) (c .before .before .before .before .before .before .before .before .before .before .args .work .now) (c .before .before .before .before .before .before .before .before .before .before .args .file .now) (c .before .before .before .before .lnk100-load .result) (c .before .before .before .before .lnk100-load .last .0) (c .before .before .before .before .lnk100-load .ensures .0) (c .before .before .before .before .lnk100-load .last .1 .0) (c .before .before .before .before .lnk100-load .ensures .1)
+returns c = load-kept (c .before .before .before .before .before .before .before .before .before .before .args .state .now) (c .before .before .before .before .before .before .before .before .before .before .args .work .now) (c .before .before .before .before .before .before .before .before .before .before .args .file .now) (c .before .before .before .before .lnk100-load .result) (c .before .before .before .before .lnk100-load .last .0) (c .before .before .before .before .lnk100-load .last .1 .0) (c .before .before .before .before .lnk100-load .ensures)
 
 pub load-spec : {M : Type 1} → statement M
 load-spec = tie.close (tie.spec lnk100-load-requires same-length same-length-2 returns)

@@ -20,7 +20,7 @@ same-length-2 : tie.Need-same-length-2
 same-length-2 c = search needs
 
 returns : tie.Need-returns
-returns c = listed (c .before .before .before .before .before .before .before .before .before .before .before .before .args .state .now) (c .before .before .before .before .before .before .before .before .before .before .before .before .args .work .now) (c .before .before .before .before .before .before .before .before .before .before .before .before .args .file .now) (c .before .before .before .before .before .before .lnk100-load .result) (c .before .before .before .before .before .before .lnk100-load .last .0) (c .before .before .before .before .before .before .lnk100-load .ensures .0) (c .before .before .before .before .before .before .before .before .before .before .before .before .args .index) (c .lnk100-symbols .result) (c .lnk100-symbols .ensures)
+returns c = listed (c .before .before .before .before .before .before .before .before .before .before .before .before .args .state .now) (c .before .before .before .before .before .before .before .before .before .before .before .before .args .work .now) (c .before .before .before .before .before .before .before .before .before .before .before .before .args .file .now) (c .before .before .before .before .before .before .lnk100-load .result) (c .before .before .before .before .before .before .lnk100-load .last .0) (c .before .before .before .before .before .before .lnk100-load .last .1 .0) (c .before .before .before .before .before .before .lnk100-load .ensures) (c .before .before .before .before .before .before .before .before .before .before .before .before .args .index) (c .lnk100-symbols .result) (c .lnk100-symbols .ensures)
 
 pub load-then-list-spec : {M : Type 1} → statement M
 load-then-list-spec =

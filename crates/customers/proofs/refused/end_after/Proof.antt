@@ -23,7 +23,7 @@ same-length-3 : tie.Need-same-length-3
 same-length-3 c = search needs
 
 returns : tie.Need-returns
-returns c = λ six. end-shut (c .before .before .before .before .before .before .before .before .before .before .before .lnk100-load .last .0) (refused-breaks (c .before .before .before .before .before .before .before .before .before .before .before .before .before .before .before .before .before .before .args .state .now) (c .before .before .before .before .before .before .before .before .before .before .before .before .before .before .before .before .before .before .args .work .now) (c .before .before .before .before .before .before .before .before .before .before .before .before .before .before .before .before .before .before .args .file .now) (c .before .before .before .before .before .before .before .before .before .before .before .lnk100-load .result) (c .before .before .before .before .before .before .before .before .before .before .before .lnk100-load .last .0) (c .before .before .before .before .before .before .before .before .before .before .before .lnk100-load .ensures .0) six) (c .before .before .before .before .before .before .before .before .before .before .before .before .before .before .before .before .before .before .args .out .now) (c .before .before .before .before .lnk100-end .result) (c .before .before .before .before .lnk100-end .last .0) (c .before .before .before .before .lnk100-end .last .1 .0) (c .before .before .before .before .lnk100-end .ensures)
+returns c = λ six. end-shut (c .before .before .before .before .before .before .before .before .before .before .before .lnk100-load .last .0) (refused-breaks (c .before .before .before .before .before .before .before .before .before .before .before .before .before .before .before .before .before .before .args .state .now) (c .before .before .before .before .before .before .before .before .before .before .before .before .before .before .before .before .before .before .args .work .now) (c .before .before .before .before .before .before .before .before .before .before .before .before .before .before .before .before .before .before .args .file .now) (c .before .before .before .before .before .before .before .before .before .before .before .lnk100-load .result) (c .before .before .before .before .before .before .before .before .before .before .before .lnk100-load .last .0) (c .before .before .before .before .before .before .before .before .before .before .before .lnk100-load .ensures .call) six) (c .before .before .before .before .before .before .before .before .before .before .before .before .before .before .before .before .before .before .args .out .now) (c .before .before .before .before .lnk100-end .result) (c .before .before .before .before .lnk100-end .last .0) (c .before .before .before .before .lnk100-end .last .1 .0) (c .before .before .before .before .lnk100-end .ensures)
 
 pub end-after-spec : {M : Type 1} → statement M
 end-after-spec =

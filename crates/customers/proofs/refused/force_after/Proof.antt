@@ -20,7 +20,7 @@ same-length-2 : tie.Need-same-length-2
 same-length-2 c = search needs
 
 returns : tie.Need-returns
-returns c = λ six. force-shut (c .before .before .before .before .before .before .before .before .lnk100-load .last .0) (refused-breaks (c .before .before .before .before .before .before .before .before .before .before .before .before .before .before .before .args .state .now) (c .before .before .before .before .before .before .before .before .before .before .before .before .before .before .before .args .work .now) (c .before .before .before .before .before .before .before .before .before .before .before .before .before .before .before .args .file .now) (c .before .before .before .before .before .before .before .before .lnk100-load .result) (c .before .before .before .before .before .before .before .before .lnk100-load .last .0) (c .before .before .before .before .before .before .before .before .lnk100-load .ensures .0) six) (c .before .before .before .before .before .before .before .before .before .before .before .before .before .before .before .args .name .now) (c .before .before .lnk100-force .result) (c .before .before .lnk100-force .last .0) (c .before .before .lnk100-force .ensures)
+returns c = λ six. force-shut (c .before .before .before .before .before .before .before .before .lnk100-load .last .0) (refused-breaks (c .before .before .before .before .before .before .before .before .before .before .before .before .before .before .before .args .state .now) (c .before .before .before .before .before .before .before .before .before .before .before .before .before .before .before .args .work .now) (c .before .before .before .before .before .before .before .before .before .before .before .before .before .before .before .args .file .now) (c .before .before .before .before .before .before .before .before .lnk100-load .result) (c .before .before .before .before .before .before .before .before .lnk100-load .last .0) (c .before .before .before .before .before .before .before .before .lnk100-load .ensures .call) six) (c .before .before .before .before .before .before .before .before .before .before .before .before .before .before .before .args .name .now) (c .before .before .lnk100-force .result) (c .before .before .lnk100-force .last .0) (c .before .before .lnk100-force .ensures)
 
 pub force-after-spec : {M : Type 1} → statement M
 force-after-spec =

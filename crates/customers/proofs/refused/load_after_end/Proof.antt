@@ -24,7 +24,7 @@ same-length-3 : tie.Need-same-length-3
 same-length-3 c = search needs
 
 returns : tie.Need-returns
-returns c = λ done long. let d = end-is-done (c .before .before .before .before .before .before .before .before .before .before .before .before .before .before .before .before .before .before .args .state .now) (c .before .before .before .before .before .before .before .before .before .before .before .before .before .before .before .before .before .before .args .out .now) (c .before .before .before .before .before .before .before .before .before .before .before .lnk100-end .result) (c .before .before .before .before .before .before .before .before .before .before .before .lnk100-end .last .0) (c .before .before .before .before .before .before .before .before .before .before .before .lnk100-end .last .1 .0) (c .before .before .before .before .before .before .before .before .before .before .before .lnk100-end .ensures) done in load-shut-out (c .before .before .before .before .before .before .before .before .before .before .before .lnk100-end .last .0) (c .before .before .before .before .before .before .before .before .before .before .before .before .before .before .before .before .before .before .args .work .now) (c .before .before .before .before .before .before .before .before .before .before .before .before .before .before .before .before .before .before .args .file .now) (d .state) (c .before .before .before .before .lnk100-load .result) (c .before .before .before .before .lnk100-load .last .0) (d .frozen-now) (fits (c .before .before .before .before .before .before .before .before .before .before .before .before .before .before .before .before .before .before .args .work .now) long) (c .before .before .before .before .lnk100-load .ensures .0)
+returns c = λ done long. let d = end-is-done (c .before .before .before .before .before .before .before .before .before .before .before .before .before .before .before .before .before .before .args .state .now) (c .before .before .before .before .before .before .before .before .before .before .before .before .before .before .before .before .before .before .args .out .now) (c .before .before .before .before .before .before .before .before .before .before .before .lnk100-end .result) (c .before .before .before .before .before .before .before .before .before .before .before .lnk100-end .last .0) (c .before .before .before .before .before .before .before .before .before .before .before .lnk100-end .last .1 .0) (c .before .before .before .before .before .before .before .before .before .before .before .lnk100-end .ensures) done in load-shut-out (c .before .before .before .before .before .before .before .before .before .before .before .lnk100-end .last .0) (c .before .before .before .before .before .before .before .before .before .before .before .before .before .before .before .before .before .before .args .work .now) (c .before .before .before .before .before .before .before .before .before .before .before .before .before .before .before .before .before .before .args .file .now) (d .state) (c .before .before .before .before .lnk100-load .result) (c .before .before .before .before .lnk100-load .last .0) (d .frozen-now) (fits (c .before .before .before .before .before .before .before .before .before .before .before .before .before .before .before .before .before .before .args .work .now) long) (c .before .before .before .before .lnk100-load .ensures .call)
 
 pub load-after-end-spec : {M : Type 1} → statement M
 load-after-end-spec =

@@ -19,7 +19,7 @@ same-length-2 : tie.Need-same-length-2
 same-length-2 c = search needs
 
 returns : tie.Need-returns
-returns c = λ six. load-shut (c .before .before .before .before .before .before .before .before .before .before .before .lnk100-load .last .0) (refused-breaks (c .before .before .before .before .before .before .before .before .before .before .before .before .before .before .before .before .before .before .args .state .now) (c .before .before .before .before .before .before .before .before .before .before .before .before .before .before .before .before .before .before .args .work .now) (c .before .before .before .before .before .before .before .before .before .before .before .before .before .before .before .before .before .before .args .file .now) (c .before .before .before .before .before .before .before .before .before .before .before .lnk100-load .result) (c .before .before .before .before .before .before .before .before .before .before .before .lnk100-load .last .0) (c .before .before .before .before .before .before .before .before .before .before .before .lnk100-load .ensures .0) six) (c .before .before .before .before .before .before .before .before .before .before .before .lnk100-load .last .1 .0) (c .before .before .before .before .before .before .before .before .before .before .before .before .before .before .before .before .before .before .args .other .now) (c .before .before .before .before .lnk100-load2 .result) (c .before .before .before .before .lnk100-load2 .last .0) (again-fits (c .before .before .before .before .before .before .before .before .before .before .before .before .before .before .before .before .before .before .args .work .now) (c .before .before .before .before .before .before .before .before .before .before .before .lnk100-load .last .1 .0) (c .before .before .before .before .before .before .before .before .before .before .before .lnk100-load .ensures .1) (refused-fits (c .before .before .before .before .before .before .before .before .before .before .before .before .before .before .before .before .before .before .args .state .now) (c .before .before .before .before .before .before .before .before .before .before .before .before .before .before .before .before .before .before .args .work .now) (c .before .before .before .before .before .before .before .before .before .before .before .before .before .before .before .before .before .before .args .file .now) (c .before .before .before .before .before .before .before .before .before .before .before .lnk100-load .result) (c .before .before .before .before .before .before .before .before .before .before .before .lnk100-load .last .0) (c .before .before .before .before .before .before .before .before .before .before .before .lnk100-load .ensures .0) six)) (c .before .before .before .before .lnk100-load2 .ensures .0)
+returns c = λ six. load-shut (c .before .before .before .before .before .before .before .before .before .before .before .lnk100-load .last .0) (refused-breaks (c .before .before .before .before .before .before .before .before .before .before .before .before .before .before .before .before .before .before .args .state .now) (c .before .before .before .before .before .before .before .before .before .before .before .before .before .before .before .before .before .before .args .work .now) (c .before .before .before .before .before .before .before .before .before .before .before .before .before .before .before .before .before .before .args .file .now) (c .before .before .before .before .before .before .before .before .before .before .before .lnk100-load .result) (c .before .before .before .before .before .before .before .before .before .before .before .lnk100-load .last .0) (c .before .before .before .before .before .before .before .before .before .before .before .lnk100-load .ensures .call) six) (c .before .before .before .before .before .before .before .before .before .before .before .lnk100-load .last .1 .0) (c .before .before .before .before .before .before .before .before .before .before .before .before .before .before .before .before .before .before .args .other .now) (c .before .before .before .before .lnk100-load2 .result) (c .before .before .before .before .lnk100-load2 .last .0) (again-fits (c .before .before .before .before .before .before .before .before .before .before .before .before .before .before .before .before .before .before .args .work .now) (c .before .before .before .before .before .before .before .before .before .before .before .lnk100-load .last .1 .0) (c .before .before .before .before .before .before .before .before .before .before .before .lnk100-load .ensures .work-left) (refused-fits (c .before .before .before .before .before .before .before .before .before .before .before .before .before .before .before .before .before .before .args .state .now) (c .before .before .before .before .before .before .before .before .before .before .before .before .before .before .before .before .before .before .args .work .now) (c .before .before .before .before .before .before .before .before .before .before .before .before .before .before .before .before .before .before .args .file .now) (c .before .before .before .before .before .before .before .before .before .before .before .lnk100-load .result) (c .before .before .before .before .before .before .before .before .before .before .before .lnk100-load .last .0) (c .before .before .before .before .before .before .before .before .before .before .before .lnk100-load .ensures .call) six)) (c .before .before .before .before .lnk100-load2 .ensures .call)
 
 pub load-again-spec : {M : Type 1} → statement M
 load-again-spec =

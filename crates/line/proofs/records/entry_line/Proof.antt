@@ -19,13 +19,13 @@ read-as-requires : tie.Need-read-as-requires
 read-as-requires c κs = search needs
 
 returns : tie.Need-returns
-returns c = c .read-as .ensures ∙ entry-relocated _ _ (seen (λ t. isOne (numberOf t)) (sym (c .before .before .before .third-field .ensures)) (c .before .before .is-one .ensures) (c .before .if1 .taken))
+returns c = c .read-as .ensures ∙ entry-relocated _ _ (seen (λ t. isOne (numberOf t)) (sym (c .before .before .before .third-field .ensures .1)) (c .before .before .is-one .ensures) (c .before .if1 .taken))
 
 read-as-requires-2 : tie.Need-read-as-requires-2
 read-as-requires-2 c κs = search needs
 
 returns-2 : tie.Need-returns-2
-returns-2 c = c .read-as2 .ensures ∙ entry-absolute _ _ (seen (λ t. isOne (numberOf t)) (sym (c .before .before .before .third-field .ensures)) (c .before .before .is-one .ensures) (c .before .if1 .left))
+returns-2 c = c .read-as2 .ensures ∙ entry-absolute _ _ (seen (λ t. isOne (numberOf t)) (sym (c .before .before .before .third-field .ensures .1)) (c .before .before .is-one .ensures) (c .before .if1 .left))
 
 pub entry-line-spec : {M : Type 1} → statement M
 entry-line-spec =

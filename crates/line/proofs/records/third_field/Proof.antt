@@ -1,6 +1,6 @@
 -- `line::records::third_field` meets its contract: two fields are passed.
 -- Assumes nothing.
-use Rattle.line.proofs.PeekLaws.{third-text}
+use Rattle.line.proofs.PeekLaws.{next-part, third-text}
 use borrow.Author.Needs.{needs}
 use Rattle.line.proofs.records.third_field.Statement.{statement}
 use Rattle.line.proofs.records.third_field.Tie as tie
@@ -15,7 +15,10 @@ next-field-requires : tie.Need-next-field-requires
 next-field-requires c κs = search needs
 
 returns : tie.Need-returns
-returns c = third-text (c .before .before .past-field .ensures) (c .before .past-field2 .ensures) (c .next-field .ensures)
+returns c = (
+  next-part (c .next-field .ensures),
+  third-text (c .before .before .past-field .ensures) (c .before .past-field2 .ensures) (c .next-field .ensures),
+)
 
 pub third-field-spec : {M : Type 1} → statement M
 third-field-spec =
