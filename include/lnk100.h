@@ -18,7 +18,8 @@
  *
  * Each call's answer, and every lent cell and byte afterwards, is what the call's definition in crates/rules/specs/Calls.antt gives:
  * that is proved of the functions that these declarations name. scripts/declarations.sh, with which the gate begins, holds the text of
- * the declarations and constants to the Rattle source: fields and parameters in order with their names and types, and each number. */
+ * the declarations and constants to the Rattle source: fields and parameters in order with their names and types, and each number.
+ * What follows for a caller, in a caller's words, is proved of small programs over these calls: crates/customers. */
 #ifndef LNK100_H
 #define LNK100_H
 

@@ -1,21 +1,27 @@
 -- LOAD: its contract as a whole, of a file that is one library, and the symbols that are left.
 use Prim.Native.Nat.{ℕ}
+use mathlib.Core.Bool.{Bool}
 use mathlib.Core.List.{List, [], _∷_}
 use mathlib.Core.Path.{_≡_, refl, sym, ap, subst, _∙_}
-use Rattle.rules.specs.Reading.{Module, section, itemsOf}
-use Rattle.rules.specs.State.{State}
-use Rattle.rules.specs.Load.{walking, searched, walkFrom}
-use Rattle.rules.specs.Calls.{Lent, holding, load, symbolAt, symbols}
+use lib.ListN.{length}
+use borrow.Author.Tests.{eq-eqb}
+use Rattle.rules.specs.Limits.{workSize}
+use Rattle.rules.specs.Reading.{Module, section, readingOf, itemsOf}
+use Rattle.rules.specs.State.{State, broken, marked}
+use Rattle.rules.specs.Load.{refusal, walking, searched, walkFrom, loaded, loadRead, loadFile}
+use Rattle.rules.specs.Calls.{Lent, holding, loadOutcome, load, symbolAt, symbols}
 use Rattle.rules.specs.History.{workFits}
 use Rattle.rules.specs.declared.answer.LoadAnswer.{LoadAnswer}
 use Rattle.rules.specs.Demand.{LeastSufficient, LeastAtEach}
 use Rattle.rules.specs.declared.answer.SymbolAnswer.{SymbolAnswer}
+use Rattle.rules.specs.declared.reading.Reading.the-variants.{Stopped}
+use Rattle.rules.proofs.OrderLaws.{load-reads}
 use Rattle.rules.proofs.Demand3.{library-least}
 use Rattle.state.specs.Layout.{lent}
 use Rattle.state.specs.Promise.{LoadCalled, DemandMet}
 use Rattle.loading.proofs.LoadDemand.{load-least, load-rounds-most}
 use Rattle.customers.specs.Words.{LoadKept, Listed}
-use Rattle.customers.proofs.LentBefore.{same-held}
+use Rattle.customers.proofs.LentBefore.{same-held, answer-is}
 use Rattle.customers.proofs.RefusedLaws.{refused-keeps, work-cleared}
 
 module _ (cells file after : List ℕ) (d : DemandMet cells file after) (s : State) (h : lent cells ≡ holding s) where
@@ -33,6 +39,11 @@ module _ (cells file after : List ℕ) (d : DemandMet cells file after) (s : Sta
   unfolding symbols
   symbols-left i r e = e ∙ ap (λ m. symbols m i) (d .holds) ∙ ap (λ (t : State). symbolAt (t .symbols) i) (least-from .ends)
 
+-- what a file that cannot be read comes to
+stopped-load : (s : State) (file : List ℕ) (k n c : ℕ) → readingOf file ≡ Stopped k n c → loadFile s file ≡ loaded (refusal k n) 0 (marked broken s)
+unfolding loadFile loadRead
+stopped-load s file k n c e = ap (loadRead s file) e
+
 module _ (before work file : List ℕ) (r : LoadAnswer) (after used : List ℕ) (p : LoadCalled (load (lent before) (workFits work) file) before work r after used) where
   pub load-kept : LoadKept before work file r after used
   load-kept =
@@ -42,6 +53,12 @@ module _ (before work file : List ℕ) (r : LoadAnswer) (after used : List ℕ) 
       record {
         kept = λ z. kept z .0;
         unread = λ z few. kept z .1 few;
+        told = λ s k n c h mark room short e.
+            answer-is (λ m. load m (workFits work) file) before after r (p .call) (holding s) h
+            (loadOutcome (loaded (refusal k n) 0 (marked broken s)))
+            (ap (λ (f : Bool). load (holding s) f file) (eq-eqb (length work) workSize room)
+            ∙ load-reads s file mark short
+            ∙ ap loadOutcome (stopped-load s file k n c e));
         cleared = work-cleared work used (p .work-left) .0;
         untouched = work-cleared work used (p .work-left) .1;
         least = least;

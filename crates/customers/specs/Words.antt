@@ -5,15 +5,16 @@ use mathlib.Core.List.{List, [], _∷_}
 use mathlib.Core.Logic.{_≢_}
 use mathlib.Core.Path.{_≡_}
 use lib.ListN.{length, getD, take, replicate}
-use Rattle.rules.specs.Limits.{workSize}
+use Rattle.rules.specs.Limits.{longestFile, workSize}
 use Rattle.rules.specs.Text.{isName, packName}
-use Rattle.rules.specs.Reading.{Module, section, itemsOf}
-use Rattle.rules.specs.State.{State, placedWords}
+use Rattle.rules.specs.Reading.{Module, section, readingOf, itemsOf}
+use Rattle.rules.specs.State.{State, unmarked, placedWords}
 use Rattle.rules.specs.Load.{progress, walking, searched, walkFrom, takenIn, sectionsIn}
 use Rattle.rules.specs.Image.{imageOf}
 use Rattle.rules.specs.Calls.{holding, workAfter, loadAnswer, callAnswer, memoryAnswer, endAnswer, symbolAt}
 use Rattle.rules.specs.Demand.{LeastSufficient}
 use Rattle.rules.specs.History.{resetting, loading, ending, ofCall, ofLoad, ofEnd}
+use Rattle.rules.specs.declared.reading.Reading.the-variants.{Stopped}
 use Rattle.rules.specs.declared.answer.LoadAnswer.{LoadAnswer}
 use Rattle.rules.specs.declared.answer.CallAnswer.{CallAnswer}
 use Rattle.rules.specs.declared.answer.MemoryAnswer.{MemoryAnswer}
@@ -83,6 +84,9 @@ pub record LoadKept (before work file : List ℕ) (r : LoadAnswer) (after used :
   -- refused, it leaves every cell as it was but the mark; refused ahead of reading, by 1 to 5, the mark too
   pub kept : r .number ≢ 0 → SameButMark before after
   pub unread : r .number ≢ 0 → r .number ≤ 5 → after ≡ before
+  -- a file that cannot be read is refused by the number of its first fault, at that line
+  pub told : (s : State) (k n c : ℕ) → lent before ≡ holding s → s .mark ≡ unmarked → length work ≡ workSize →
+      length file ≤ longestFile → readingOf file ≡ Stopped k n c → r ≡ loadAnswer k n 0
   -- work memory that is lent with junk comes back zero, refused or not; of another length it comes back as it was
   pub cleared : length work ≡ workSize → used ≡ replicate workSize 0
   pub untouched : length work ≢ workSize → used ≡ work
