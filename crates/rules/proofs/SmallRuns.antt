@@ -5,7 +5,7 @@ use Prim.Native.String.{String}
 use mathlib.Core.Bool.{Bool, true, false}
 use mathlib.Core.List.{List, [], _∷_, _++_}
 use mathlib.Core.Path.{_≡_, refl}
-use lib.ListN.{replicate}
+use lib.ListN.{take, replicate}
 use Rattle.rules.specs.Text as Text
 use Rattle.rules.specs.Answers as Answers
 use Rattle.rules.specs.Line as Line
@@ -19,7 +19,7 @@ use Rattle.rules.specs.Load as Load
 use Rattle.rules.specs.Text.{bytes, linesOf, packName}
 use Rattle.rules.specs.Answers.{answerName}
 use Rattle.rules.specs.Line.{lineAnswer}
-use Rattle.rules.specs.Reading.{readingOf}
+use Rattle.rules.specs.Reading.{free, readingOf, itemsOf}
 use Rattle.rules.specs.State.{Symbol, symbol, Word, plain, unplaced, refers, Mark, unmarked, broken, frozen, State, state, fresh, high, highest, sound}
 use Rattle.rules.specs.Calls.{wrongLength, damaged, holding, Left, asBefore, now, Outcome, outcome, workAfter, load, force, base, reset, memory, symbols, undefined, end}
 use Rattle.rules.specs.declared.line.FaultKind.{FaultKind}
@@ -99,6 +99,23 @@ full n = state (replicate n (symbol (name "A") 0 true)) [] 0 unmarked
 -- what LOAD answers to a file, from no symbols and no words with this next address
 abbrev loaded : ℕ → List ℕ → LoadAnswer
 loaded n text = load (holding (state [] (replicate 4096 unplaced) n unmarked)) true text .answer
+
+-- of a state: its symbols, its first six words and its next address
+pub record Front : Type 0 where
+  pub symbols : List Symbol
+  pub words : List Word
+  pub next : ℕ
+
+abbrev front : List Symbol → List Word → ℕ → Front
+front t ws n = record { symbols = t; words = ws; next = n }
+
+abbrev frontOf : Left → Front
+frontOf asBefore = front [] [] 0
+frontOf (now s) = front (s .symbols) (take 6 (s .words)) (s .next)
+
+-- what is left of a file, there
+abbrev left : ℕ → List ℕ → Front
+left n text = frontOf (load (holding (state [] (replicate 4096 unplaced) n unmarked)) true text .left)
 
 abbrev answer : ℕ → ℕ → ℕ → LoadAnswer
 answer k n r = record { number = k; line = n; rounds = r }
@@ -250,6 +267,26 @@ Walks =
     × (loaded 0 (module-of "4 1 ***ENTRY\nA 0 0\n13 1 ***AENTRY\nA 1 0\n") ≡ answer 13 1 0)
     × (loaded 0 (module-of "4 1 ***ENTRY\nA 0 0\n" ++ module-of "4 1 ***ENTRY\nA 0 0\n") ≡ answer 13 7 0)
 
+-- "at each library first any name that is an entry twice [..], then per placed module 9 to 14 as numbered", in file order
+abbrev Orders : Type 0
+Orders =
+    (loaded 0 (module-of "0 2 7777 ***CODE\n1 2 3 4\n1 2 3 4\n0 1 0 ***CODE\n1 2 3 4\n0 1 0 ***CODE\n1 2 3 4\n") ≡ answer 9 1 0)
+    × (loaded 0 (module-of "0 1 0 ***CODE\n1 2 3 4\n0 1 0 ***CODE\n* 0 0 0 0 0 5 1\n") ≡ answer 10 1 0)
+    × (loaded 1 (module-of "0 1 0 ***CODE\n* 0 0 0 0 0 5 1\n4 1 ***ENTRY\nA 177777 1 0\n") ≡ answer 11 1 0)
+    × (loaded 1 (module-of "4 2 ***ENTRY\nA 177777 1 0\nA 0 0\n") ≡ answer 12 1 0)
+    × (loaded 0 (bytes "6 ***LSB\n" ++ module-of "0 2 7777 ***CODE\n1 2 3 4\n1 2 3 4\n4 2 ***ENTRY\nA 0 0\nA 0 0\n" ++ bytes "7 ***LEB\n") ≡ answer 13 1 0)
+    × (loaded 0 (module-of "0 2 7777 ***CODE\n1 2 3 4\n1 2 3 4\n" ++ bytes "6 ***LSB\n" ++ module-of "4 2 ***ENTRY\nA 0 0\nA 0 0\n" ++ bytes "7 ***LEB\n") ≡ answer 9 1 0)
+
+-- "Blocks 10, 11 and 12 are read and have no effect. Block 13 acts as block 4."; externals "from 1 in file order"; "Placing a module"
+abbrev Placed : Type 0
+Placed =
+    (itemsOf (module-of "10 1 A 0 ***DBDB\n1 2\n11 1 ***DBIB\n1 2 3 4 5\n12 1 ***FPB\n0 0 1\n0 0\n") ≡ free (record { line = 1; parts = [] }) ∷ [])
+    × (itemsOf (module-of "13 1 ***AENTRY\nA 5 0\n") ≡ itemsOf (module-of "4 1 ***ENTRY\nA 5 0\n"))
+    × (left 3 (module-of "0 1 2 ***CODE\n1 2 3 4\n") ≡ front [] (unplaced ∷ unplaced ∷ unplaced ∷ unplaced ∷ unplaced ∷ plain 0x0001_0002_0003_0004 ∷ []) 6)
+    × (left 0 (module-of "5 2 ***EXT\nA\nB\n0 2 0 ***CODE\n* 0 0 0 7 0 5 3\n* 0 0 0 10 0 5 2\n5 1 ***EXT\nA\n") ≡ front (symbol (name "A") 0 false ∷ symbol (name "B") 0 false ∷ []) (refers 7 0 ∷ refers 8 1 ∷ unplaced ∷ unplaced ∷ unplaced ∷ unplaced ∷ []) 2)
+    × (left 0 (module-of "5 1 ***EXT\nA\n0 1 0 ***CODE\n* 0 0 0 7 0 4 1\n") ≡ front (symbol (name "A") 0 false ∷ []) (plain 7 ∷ unplaced ∷ unplaced ∷ unplaced ∷ unplaced ∷ unplaced ∷ []) 1)
+    × (left 2 (module-of "5 1 ***EXT\nX\n4 2 ***ENTRY\nA 5 0\nB 5 1 0\n") ≡ front (symbol (name "A") 5 true ∷ symbol (name "B") 7 true ∷ symbol (name "X") 0 false ∷ []) (replicate 6 unplaced) 2)
+
 -- "A state is sound if [..]": each clause broken alone
 abbrev Soundness : Type 0
 Soundness =
@@ -342,7 +379,7 @@ Names =
 
 -- ---- the claim
 
-pub small-table : Lines × Bytes × Headers × Records × CodeWords × Files × Lists × Walks × Soundness × Looking × Lengths × Marks × Names
+pub small-table : Lines × Bytes × Headers × Records × CodeWords × Files × Lists × Walks × Orders × Placed × Soundness × Looking × Lengths × Marks × Names
 unfolding times Text.bytes Text.all Text.any Text.widenLine Text.cutLines Text.withoutEnd Text.linesOf Text.legalFront Text.startsField Text.widenField Text.addToFields Text.fieldsFrom Text.fieldsOf Text.octal Text.isNumber Text.numberOf Text.isName Text.packName Text.nameOf Text.upToZero Text.unpackName Text.isPacked Line.headers Line.rowIn Line.rowOf Line.markerIn Text.sameText Line.held Line.inBounds Line.readField Line.inFront Line.fit Line.said Line.readAs Line.recordShape Line.codeLine Line.entryLine Line.sayHeader Line.rowAt Line.firstText Line.headerLine Line.isOne Line.textAt Line.fieldsSay Line.lineOf Line.faultWithin Line.testBytes Line.lineAnswer Reading.atStart Reading.expect Reading.expectRecords Reading.recordDone Reading.expectSubs Reading.titleHeader Reading.enterModule Reading.leaveModule Reading.enterSection Reading.leaveSection Reading.countEntry Reading.countExternal Reading.titleStep Reading.libraryStep Reading.libraryEndStep Reading.headerStep Reading.closingStep Reading.entryStep Reading.externalStep Reading.parameterStep Reading.subStep Reading.stepOf Reading.unread Reading.moduleDone Reading.stepped Reading.ifComplete Reading.readLine Reading.readLines Reading.isHeader Reading.atEnd Reading.readingOf Reading.itemsOf State.noWords State.fresh State.isSymbol State.isDefined State.isUndefined State.positionOf State.undefinedOnly State.placedWords State.highestFrom State.highest State.high State.soundSymbol State.differentNames State.soundWord State.sound Placing.entriesIn Placing.externalsIn Placing.codeIn Placing.lengthIn Placing.countIn Placing.valueAt Placing.define Placing.mention Placing.defineAll Placing.mentionAll Placing.joined Placing.linked Placing.putAll Placing.noRoom Placing.overlaps Placing.badArgument Placing.badArguments Placing.outOfRange Placing.twice Placing.duplicates Placing.tableFull Placing.placingFault Placing.placed Search.noModules Search.withModule Search.visit Search.sweep Search.round Search.rounds Search.search Load.tryPlace Load.place Load.entryNames Load.isNeeded Load.takes Load.searched Load.sectionNames Load.testSection Load.walkItem Load.walkItems Load.walked Load.loadRead Load.loadFile Image.valueOf Image.completed Image.two Image.quarters Image.wordRecord Image.recordOf Image.recordsFrom Image.endRecord Image.imageOf Calls.workAfter Calls.shutBy Calls.loadState Calls.loadLent Calls.load Calls.forceState Calls.force Calls.baseState Calls.base Calls.reset Calls.memory Calls.symbolAt Calls.symbols Calls.undefinedAt Calls.undefined Calls.isBroken Calls.endState Calls.end Answers.answers Answers.nameIn Answers.answerName
 small-table = (
   (refl, refl, refl, refl, refl),
@@ -353,6 +390,8 @@ small-table = (
   (refl, refl, refl, refl, refl, refl, refl, refl, refl, refl, refl, refl, refl, refl, refl, refl),
   (refl, refl, refl, refl, refl, refl, refl, refl, refl, refl),
   (refl, refl, refl, refl, refl, refl, refl, refl, refl, refl, refl, refl, refl, refl),
+  (refl, refl, refl, refl, refl, refl),
+  (refl, refl, refl, refl, refl, refl),
   (refl, refl, refl, refl, refl, refl, refl, refl, refl, refl),
   (refl, refl, refl, refl, refl, refl, refl, refl, refl, refl),
   (refl, refl, refl, refl, refl, refl, refl, refl, refl, refl, refl, refl, refl, refl, refl, refl, refl, refl, refl),
