@@ -231,7 +231,7 @@ sound-different s h =
     and-on (differentNames (s .symbols)) _ b .0
 
 -- "if the load is accepted, take any library section of the file"
-section-taken : (s : State) (file : List ℕ) → sound s ≡ true → load (holding s) true file .answer .number ≡ 0 →
+pub section-taken : (s : State) (file : List ℕ) → sound s ≡ true → load (holding s) true file .answer .number ≡ 0 →
     (before after : List Item) (line : ℕ) (ms : List Module) → itemsOf file ≡ before ++ (section line ms ∷ after) →
     TakesLeast (walkFrom s before .walk) ms (walkFrom s (before ++ (section line ms ∷ [])) .walk)
 unfolding walkItems walkItem
