@@ -13,7 +13,7 @@ use Rattle.rules.specs.Reading as Reading
 use Rattle.rules.specs.State as State
 use Rattle.rules.specs.Calls as Calls
 use Rattle.rules.specs.History as History
-use Rattle.rules.specs.History.{Call, loading, forcing, basing, resetting, askingHigh, listing, listingUndefined, ending, canAnswer}
+use Rattle.rules.specs.History.{Call, loading, forcing, basing, resetting, askingHigh, listing, listingUndefined, ending, workFits, canAnswer}
 use Rattle.rules.specs.Image as Image
 use Rattle.rules.specs.Placing as Placing
 use Rattle.rules.specs.Search as Search
@@ -22,7 +22,7 @@ use Rattle.rules.specs.Text.{bytes, linesOf, packName}
 use Rattle.rules.specs.Answers.{answerName}
 use Rattle.rules.specs.Line.{lineAnswer}
 use Rattle.rules.specs.Reading.{free, readingOf, itemsOf}
-use Rattle.rules.specs.State.{Symbol, symbol, Word, plain, unplaced, refers, Mark, unmarked, broken, frozen, State, state, fresh, high, highest, sound}
+use Rattle.rules.specs.State.{Symbol, symbol, Word, plain, unplaced, refers, Mark, unmarked, broken, frozen, State, state, fresh, positionOf, high, highest, sound}
 use Rattle.rules.specs.Calls.{wrongLength, damaged, holding, Left, asBefore, now, Outcome, outcome, workAfter, load, force, base, reset, memory, symbols, undefined, end}
 use Rattle.rules.specs.declared.line.FaultKind.{FaultKind}
 use Rattle.rules.specs.declared.line.FaultKind.the-variants.{IllegalByte, BadMarker, FieldCount, BadNumber, BadName, BadType}
@@ -58,6 +58,10 @@ with-byte text b = bytes text ++ (b ∷ [])
 -- a TITLE header of n bytes, spaces behind it
 abbrev wide : ℕ → List ℕ
 wide n = bytes "3 ***TITLE" ++ replicate (n - 10) 32
+
+-- a text and 80 spaces
+abbrev over : Expected → String → LineAnswer
+over w text = lineAnswer w (bytes text ++ replicate 80 32)
 
 abbrev fault : FaultKind → ℕ → LineAnswer
 fault k c = Bad (record { kind = k; column = c })
@@ -118,6 +122,22 @@ frontOf (now s) = front (s .symbols) (take 6 (s .words)) (s .next)
 -- what is left of a file, there
 abbrev left : ℕ → List ℕ → Front
 left n text = frontOf (load (holding (state [] (replicate 4096 unplaced) n unmarked)) true text .left)
+
+-- the sections of a file, and the modules that a load from no symbols and no words takes of them
+abbrev sections : List ℕ → ℕ
+sections text = Load.sectionsIn (itemsOf text)
+
+abbrev taken : List ℕ → ℕ
+taken text = Load.takenIn (Load.progress (Load.walking (state [] (replicate 4096 unplaced) 0 unmarked)) 0) (itemsOf text)
+
+-- an external X, a section whose first module enters it, and an empty section
+abbrev wanting : List ℕ
+wanting =
+    module-of "5 1 ***EXT\nX\n"
+    ++ bytes "6 ***LSB\n"
+    ++ module-of "4 1 ***ENTRY\nX 0 0\n"
+    ++ module-of "4 1 ***ENTRY\nZ 0 0\n"
+    ++ bytes "7 ***LEB\n6 ***LSB\n7 ***LEB\n"
 
 abbrev answer : ℕ → ℕ → ℕ → LoadAnswer
 answer k n r = record { number = k; line = n; rounds = r }
@@ -227,12 +247,73 @@ CodeWords =
     × (line CodeRecord "* 1 2 3 4 0 6 1" ≡ fault BadType 13)
     × (line CodeRecord "* 1 2 3 4 0 5" ≡ fault FieldCount 14)
 
+-- each field of a header and of a record is of its kind, and none too many or too few
+abbrev Kinds : Type 0
+Kinds =
+    (line AnyHeader "0 A 3 ***CODE" ≡ fault BadNumber 3)
+    × (line AnyHeader "0 2 A ***CODE" ≡ fault BadNumber 5)
+    × (line AnyHeader "5 A ***EXT" ≡ fault BadNumber 3)
+    × (line AnyHeader "10 A A 3 ***DBDB" ≡ fault BadNumber 4)
+    × (line AnyHeader "10 2 A A ***DBDB" ≡ fault BadNumber 8)
+    × (line AnyHeader "11 A ***DBIB" ≡ fault BadNumber 4)
+    × (line AnyHeader "12 A ***FPB" ≡ fault BadNumber 4)
+    × (line AnyHeader "13 A ***AENTRY" ≡ fault BadNumber 4)
+    × (line OpeningTitle "1" ≡ fault BadName 1)
+    × (line ClosingTitle "1" ≡ fault BadName 1)
+    × (line CodeRecord "A 2 3 4" ≡ fault BadNumber 1)
+    × (line CodeRecord "1 A 3 4" ≡ fault BadNumber 3)
+    × (line CodeRecord "1 2 A 4" ≡ fault BadNumber 5)
+    × (line CodeRecord "1 2 3 A" ≡ fault BadNumber 7)
+    × (line CodeRecord "* A 2 3 4 0 5 1" ≡ fault BadNumber 3)
+    × (line CodeRecord "* 1 A 3 4 0 5 1" ≡ fault BadNumber 5)
+    × (line CodeRecord "* 1 2 A 4 0 5 1" ≡ fault BadNumber 7)
+    × (line CodeRecord "* 1 2 3 A 0 5 1" ≡ fault BadNumber 9)
+    × (line CodeRecord "* 1 2 3 4 A 5 1" ≡ fault BadNumber 11)
+    × (line CodeRecord "* 1 2 3 4 0 A 1" ≡ fault BadNumber 13)
+    × (line CodeRecord "* 1 2 3 4 0 5 A" ≡ fault BadNumber 15)
+    × (line EntryRecord "1 5 0" ≡ fault BadName 1)
+    × (line EntryRecord "A B 0" ≡ fault BadNumber 3)
+    × (line EntryRecord "A 5 B" ≡ fault BadNumber 5)
+    × (line EntryRecord "1 5 1 2" ≡ fault BadName 1)
+    × (line EntryRecord "A B 1 2" ≡ fault BadNumber 3)
+    × (line EntryRecord "A 5 1 B" ≡ fault BadNumber 7)
+    × (line DataRecord "A 2" ≡ fault BadNumber 1)
+    × (line DataRecord "1 A" ≡ fault BadNumber 3)
+    × (line ParameterRecord "A 2 7" ≡ fault BadNumber 1)
+    × (line ParameterRecord "1 A 7" ≡ fault BadNumber 3)
+    × (line ParameterRecord "1 2 A" ≡ fault BadNumber 5)
+    × (line SubRecord "A 2" ≡ fault BadNumber 1)
+    × (line OpeningTitle "A B" ≡ fault FieldCount 3)
+    × (line ClosingTitle "A B" ≡ fault FieldCount 3)
+    × (line CodeRecord "* 1 2 3 4 0 5 1 1" ≡ fault FieldCount 17)
+    × (line DataRecord "1 2 3" ≡ fault FieldCount 5)
+    × (line ParameterRecord "1 2 3 4" ≡ fault FieldCount 7)
+    × (line SubRecord "1 2 3" ≡ fault FieldCount 5)
+    × (line SubRecord "1" ≡ fault FieldCount 2)
+
+-- the length is tested whatever the line says, and of several faults the leftmost is told
+abbrev Leftmost : Type 0
+Leftmost =
+    (over OpeningTitle "A" ≡ fault IllegalByte 81)
+    × (over ClosingTitle "A" ≡ fault IllegalByte 81)
+    × (over CodeRecord "1 2 3 4" ≡ fault IllegalByte 81)
+    × (over EntryRecord "A 5 0" ≡ fault IllegalByte 81)
+    × (over ExternalRecord "A" ≡ fault IllegalByte 81)
+    × (over InitRecord "1 2 3 4 5" ≡ fault IllegalByte 81)
+    × (over ParameterRecord "1 2 7" ≡ fault IllegalByte 81)
+    × (over SubRecord "1 2" ≡ fault IllegalByte 81)
+    × (lineAnswer CodeRecord (with-byte "1 2 3 4" 127) ≡ fault BadNumber 7)
+    × (lineAnswer CodeRecord (with-byte "1 2 3 " 127) ≡ fault IllegalByte 7)
+    × (lineAnswer CodeRecord (with-byte "1 2 A " 127) ≡ fault BadNumber 5)
+    × (lineAnswer CodeRecord (with-byte "1 " 127 ++ bytes " A 4") ≡ fault IllegalByte 3)
+
 -- 7 PLACE, "A file ending too soon is at the last line number plus one", "the earliest line with 6, 7 or 8 decides"
 abbrev Files : Type 0
 Files =
     (file "" ≡ Complete)
     × (file "3 ***TITLE\nA\n1 ***END\nA\n" ≡ Complete)
     × (file "6 ***LSB\n7 ***LEB" ≡ Complete)
+    × (file "3 ***TITLE\nA\n12 2 ***FPB\n0 0 1\n0 0\n0 0 2\n0 0\n0 0\n1 ***END\nA\n" ≡ Complete)
     × (file "3 ***TITLE" ≡ Stopped 7 2 0)
     × (file "3 ***TITLE\nA\n\n" ≡ Stopped 7 4 0)
     × (file "6 ***LSB\n" ≡ Stopped 7 2 0)
@@ -261,11 +342,16 @@ Lists =
     × (force (holding (full 256)) (bytes "B") ≡ called 14 asBefore)
     × (force (holding (full 256)) (bytes "A") ≡ called 0 (now (full 256)))
 
--- the rounds, "summed over its sections", and 9 to 13 at the line of the TITLE header
+-- the rounds, "summed over its sections", here as many as "modules taken plus sections"; 9 to 13 at the line of the TITLE header
 abbrev Walks : Type 0
 Walks =
     (loaded 0 (bytes "6 ***LSB\n7 ***LEB\n") ≡ answer 0 0 1)
     × (loaded 0 (bytes "6 ***LSB\n7 ***LEB\n6 ***LSB\n7 ***LEB\n") ≡ answer 0 0 2)
+    × (loaded 0 wanting ≡ answer 0 0 3)
+    × (taken wanting ≡ 1)
+    × (sections wanting ≡ 2)
+    × (taken [] ≡ 0)
+    × (sections [] ≡ 0)
     × (loaded 0 (module-of "0 1 7777 ***CODE\n1 2 3 4\n") ≡ answer 0 0 0)
     × (loaded 0 (module-of "0 2 7777 ***CODE\n1 2 3 4\n1 2 3 4\n") ≡ answer 9 1 0)
     × (loaded 0 (module-of "0 0 17777 ***CODE\n") ≡ answer 0 0 0)
@@ -318,6 +404,8 @@ abbrev Looking : Type 0
 Looking =
     (high fresh ≡ 65535)
     × (high (linked unmarked) ≡ 2)
+    × (positionOf (name "B") (linked unmarked .symbols) ≡ 1)
+    × (positionOf (name "C") (linked unmarked .symbols) ≡ 2)
     × (highest 1 (linked unmarked .words) ≡ 2)
     × (highest 0 (linked unmarked .words) ≡ 65535)
     × (memory (holding (linked broken)) ≡ record { number = 0; line = 0; high = 2 })
@@ -347,6 +435,8 @@ Lengths =
     × (undefined damaged 0 ≡ record { number = 2; line = 0; none = 0; name = 0; value = 0; defined = 0; highest = 0 })
     × (end wrongLength (9 ∷ []) ≡ record { call = outcome (record { number = 1; line = 0; length = 0 }) asBefore; output = 9 ∷ [] })
     × (end damaged (9 ∷ []) ≡ record { call = outcome (record { number = 2; line = 0; length = 0 }) asBefore; output = 9 ∷ [] })
+    × (workFits (replicate 65535 0) ≡ false)
+    × (workFits (replicate 65536 0) ≡ true)
     × (workAfter 2 (7 ∷ 8 ∷ []) ≡ 0 ∷ 0 ∷ [])
     × (workAfter 3 (7 ∷ 8 ∷ []) ≡ 7 ∷ 8 ∷ [])
 
@@ -403,22 +493,24 @@ Answering =
 
 -- ---- the claim
 
-pub small-table : Lines × Bytes × Headers × Records × CodeWords × Files × Lists × Walks × Orders × Placed × Soundness × Looking × Lengths × Marks × Names × Answering
-unfolding times passing History.canAnswer Text.bytes Text.all Text.any Text.widenLine Text.cutLines Text.withoutEnd Text.linesOf Text.legalFront Text.startsField Text.widenField Text.addToFields Text.fieldsFrom Text.fieldsOf Text.octal Text.isNumber Text.numberOf Text.isName Text.packName Text.nameOf Text.upToZero Text.unpackName Text.isPacked Line.headers Line.rowIn Line.rowOf Line.markerIn Text.sameText Line.held Line.inBounds Line.readField Line.inFront Line.fit Line.said Line.readAs Line.recordShape Line.codeLine Line.entryLine Line.sayHeader Line.rowAt Line.firstText Line.headerLine Line.isOne Line.textAt Line.fieldsSay Line.lineOf Line.faultWithin Line.testBytes Line.lineAnswer Reading.atStart Reading.expect Reading.expectRecords Reading.recordDone Reading.expectSubs Reading.titleHeader Reading.enterModule Reading.leaveModule Reading.enterSection Reading.leaveSection Reading.countEntry Reading.countExternal Reading.titleStep Reading.libraryStep Reading.libraryEndStep Reading.headerStep Reading.closingStep Reading.entryStep Reading.externalStep Reading.parameterStep Reading.subStep Reading.stepOf Reading.unread Reading.moduleDone Reading.stepped Reading.ifComplete Reading.readLine Reading.readLines Reading.isHeader Reading.atEnd Reading.readingOf Reading.itemsOf State.noWords State.fresh State.isSymbol State.isDefined State.isUndefined State.positionOf State.undefinedOnly State.placedWords State.highestFrom State.highest State.high State.soundSymbol State.differentNames State.soundWord State.sound Placing.entriesIn Placing.externalsIn Placing.codeIn Placing.lengthIn Placing.countIn Placing.valueAt Placing.define Placing.mention Placing.defineAll Placing.mentionAll Placing.joined Placing.linked Placing.putAll Placing.noRoom Placing.overlaps Placing.badArgument Placing.badArguments Placing.outOfRange Placing.twice Placing.duplicates Placing.tableFull Placing.placingFault Placing.placed Search.noModules Search.withModule Search.visit Search.sweep Search.round Search.rounds Search.search Load.tryPlace Load.place Load.entryNames Load.isNeeded Load.takes Load.searched Load.sectionNames Load.testSection Load.walkItem Load.walkItems Load.walked Load.loadRead Load.loadFile Image.valueOf Image.completed Image.two Image.quarters Image.wordRecord Image.recordOf Image.recordsFrom Image.endRecord Image.imageOf Calls.workAfter Calls.shutBy Calls.loadState Calls.loadLent Calls.load Calls.forceState Calls.force Calls.baseState Calls.base Calls.reset Calls.memory Calls.symbolAt Calls.symbols Calls.undefinedAt Calls.undefined Calls.isBroken Calls.endState Calls.end Answers.answers Answers.nameIn Answers.answerName
+pub small-table : Lines × Bytes × Headers × Records × CodeWords × Kinds × Leftmost × Files × Lists × Walks × Orders × Placed × Soundness × Looking × Lengths × Marks × Names × Answering
+unfolding Load.takenAt Load.takenIn Load.sectionsAt Load.sectionsIn Search.count times passing History.canAnswer Text.bytes Text.all Text.any Text.widenLine Text.cutLines Text.withoutEnd Text.linesOf Text.legalFront Text.startsField Text.widenField Text.addToFields Text.fieldsFrom Text.fieldsOf Text.octal Text.isNumber Text.numberOf Text.isName Text.packName Text.nameOf Text.upToZero Text.unpackName Text.isPacked Line.headers Line.rowIn Line.rowOf Line.markerIn Text.sameText Line.held Line.inBounds Line.readField Line.inFront Line.fit Line.said Line.readAs Line.recordShape Line.codeLine Line.entryLine Line.sayHeader Line.rowAt Line.firstText Line.headerLine Line.isOne Line.textAt Line.fieldsSay Line.lineOf Line.faultWithin Line.testBytes Line.lineAnswer Reading.atStart Reading.expect Reading.expectRecords Reading.recordDone Reading.expectSubs Reading.titleHeader Reading.enterModule Reading.leaveModule Reading.enterSection Reading.leaveSection Reading.countEntry Reading.countExternal Reading.titleStep Reading.libraryStep Reading.libraryEndStep Reading.headerStep Reading.closingStep Reading.entryStep Reading.externalStep Reading.parameterStep Reading.subStep Reading.stepOf Reading.unread Reading.moduleDone Reading.stepped Reading.ifComplete Reading.readLine Reading.readLines Reading.isHeader Reading.atEnd Reading.readingOf Reading.itemsOf State.noWords State.fresh State.isSymbol State.isDefined State.isUndefined State.positionOf State.undefinedOnly State.placedWords State.highestFrom State.highest State.high State.soundSymbol State.differentNames State.soundWord State.sound Placing.entriesIn Placing.externalsIn Placing.codeIn Placing.lengthIn Placing.countIn Placing.valueAt Placing.define Placing.mention Placing.defineAll Placing.mentionAll Placing.joined Placing.linked Placing.putAll Placing.noRoom Placing.overlaps Placing.badArgument Placing.badArguments Placing.outOfRange Placing.twice Placing.duplicates Placing.tableFull Placing.placingFault Placing.placed Search.noModules Search.withModule Search.visit Search.sweep Search.round Search.rounds Search.search Load.tryPlace Load.place Load.entryNames Load.isNeeded Load.takes Load.searched Load.sectionNames Load.testSection Load.walkItem Load.walkItems Load.walked Load.loadRead Load.loadFile Image.valueOf Image.completed Image.two Image.quarters Image.wordRecord Image.recordOf Image.recordsFrom Image.endRecord Image.imageOf Calls.workAfter Calls.shutBy Calls.loadState Calls.loadLent Calls.load Calls.forceState Calls.force Calls.baseState Calls.base Calls.reset Calls.memory Calls.symbolAt Calls.symbols Calls.undefinedAt Calls.undefined Calls.isBroken Calls.endState Calls.end Answers.answers Answers.nameIn Answers.answerName
 small-table = (
   (refl, refl, refl, refl, refl),
   (refl, refl, refl, refl, refl, refl, refl, refl, refl),
   (refl, refl, refl, refl, refl, refl, refl, refl, refl, refl, refl, refl, refl, refl, refl, refl, refl, refl, refl, refl),
   (refl, refl, refl, refl, refl, refl, refl, refl, refl, refl, refl, refl, refl, refl, refl, refl, refl, refl, refl, refl, refl),
   (refl, refl, refl, refl, refl, refl, refl, refl, refl, refl, refl, refl, refl),
-  (refl, refl, refl, refl, refl, refl, refl, refl, refl, refl, refl, refl, refl, refl, refl, refl),
-  (refl, refl, refl, refl, refl, refl, refl, refl, refl, refl),
-  (refl, refl, refl, refl, refl, refl, refl, refl, refl, refl, refl, refl, refl, refl),
-  (refl, refl, refl, refl, refl, refl),
-  (refl, refl, refl, refl, refl, refl),
-  (refl, refl, refl, refl, refl, refl, refl, refl, refl, refl),
+  (refl, refl, refl, refl, refl, refl, refl, refl, refl, refl, refl, refl, refl, refl, refl, refl, refl, refl, refl, refl, refl, refl, refl, refl, refl, refl, refl, refl, refl, refl, refl, refl, refl, refl, refl, refl, refl, refl, refl, refl),
+  (refl, refl, refl, refl, refl, refl, refl, refl, refl, refl, refl, refl),
+  (refl, refl, refl, refl, refl, refl, refl, refl, refl, refl, refl, refl, refl, refl, refl, refl, refl),
   (refl, refl, refl, refl, refl, refl, refl, refl, refl, refl),
   (refl, refl, refl, refl, refl, refl, refl, refl, refl, refl, refl, refl, refl, refl, refl, refl, refl, refl, refl),
+  (refl, refl, refl, refl, refl, refl),
+  (refl, refl, refl, refl, refl, refl),
+  (refl, refl, refl, refl, refl, refl, refl, refl, refl, refl),
+  (refl, refl, refl, refl, refl, refl, refl, refl, refl, refl, refl, refl),
+  (refl, refl, refl, refl, refl, refl, refl, refl, refl, refl, refl, refl, refl, refl, refl, refl, refl, refl, refl, refl, refl),
   (refl, refl, refl, refl, refl, refl, refl, refl, refl, refl, refl, refl, refl),
   (refl, refl, refl, refl, refl, refl, refl, refl, refl, refl, refl, refl, refl, refl, refl, refl, refl, refl),
   (refl, refl, refl, refl, refl, refl, refl, refl),

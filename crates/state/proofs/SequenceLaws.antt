@@ -3,11 +3,12 @@ use Prim.Native.Nat.{ℕ}
 use native.Mathlib.Omega.{arith}
 use mathlib.Core.Bool.{Bool, true, false, cond}
 use mathlib.Core.List.{List, [], _∷_}
+use mathlib.Core.Logic.{_≢_}
 use mathlib.Core.Path.{_≡_, refl, sym, ap, ap₂, subst, _∙_}
 use lib.ListN.{length}
 use lib.Dec.{eqb}
 use borrow.Author.Tests.{eq-eqb}
-use Rattle.rules.specs.State.{State, fresh, sound}
+use Rattle.rules.specs.State.{State, broken, frozen, fresh, sound}
 use Rattle.rules.specs.Calls.{Lent, wrongLength, damaged, holding, Left, asBefore, now, Outcome, EndOutcome, workAfter, load, force, base, reset, memory, symbols, undefined, end}
 use Rattle.rules.specs.History.{Call, loading, forcing, basing, resetting, askingHigh, listing, listingUndefined, ending, Reply, ofLoad, ofCall, ofMemory, ofSymbols, ofUndefined, ofEnd, workFits, replyTo, leftBy, stateAfter, called, calledAll}
 use Rattle.rules.specs.declared.answer.LoadAnswer.{LoadAnswer}
@@ -16,11 +17,13 @@ use Rattle.rules.specs.declared.answer.MemoryAnswer.{MemoryAnswer}
 use Rattle.rules.specs.declared.answer.SymbolAnswer.{SymbolAnswer}
 use Rattle.rules.specs.declared.answer.UndefinedAnswer.{UndefinedAnswer}
 use Rattle.rules.specs.declared.answer.EndAnswer.{EndAnswer}
+use Rattle.rules.proofs.TestLaws.{Every}
+use Rattle.rules.proofs.OrderLaws.{broken-until-reset, frozen-until-reset}
 use Rattle.rules.proofs.SoundCalls.{called-sound}
 use Rattle.state.specs.Layout.{size, soundCells, encode, decode, lent, cellsAfter}
 use Rattle.state.specs.Promise.{Called, LoadCalled, Ended}
 use Rattle.state.specs.Sequence.{cellsCalled, Replied, Run, stop, step}
-use Rattle.state.proofs.LentLaws.{held-sound, lent-encode}
+use Rattle.state.proofs.LentLaws.{held-encoded, held-sound, lent-encode}
 
 -- ---- each call's own promise is the promise of any call
 
@@ -81,3 +84,23 @@ pub holds-run :
 unfolding calledAll
 holds-run stop s h = h
 holds-run {cells} (step {c} p run) s h = holds-run run (called s c) (ap lent (p .cells) ∙ holds-called cells s h c)
+
+-- ---- "the broken mark, which only a reset clears", on memory
+
+-- memory that holds a state which the calls leave as it is
+stays-run :
+    {cells last : List ℕ} {cs : List Call} {rs : List Reply} → Run cells cs rs last → (s : State) → lent cells ≡ holding s
+    → calledAll s cs ≡ s → last ≡ cells
+stays-run {cells} {last} run s h e = held-encoded last s (holds-run run s h ∙ ap holding e) ∙ sym (held-encoded cells s h)
+
+-- whatever calls come, until one is RESET: every cell of a broken link is as it was
+pub broken-cells-stay :
+    {cells last : List ℕ} {cs : List Call} {rs : List Reply} → Run cells cs rs last → (s : State) → lent cells ≡ holding s
+    → s .mark ≡ broken → Every (λ c. c ≢ resetting) cs → last ≡ cells
+broken-cells-stay {cs} run s h e others = stays-run run s h (broken-until-reset s e cs others)
+
+-- and of a frozen one
+pub frozen-cells-stay :
+    {cells last : List ℕ} {cs : List Call} {rs : List Reply} → Run cells cs rs last → (s : State) → lent cells ≡ holding s
+    → s .mark ≡ frozen → Every (λ c. c ≢ resetting) cs → last ≡ cells
+frozen-cells-stay {cs} run s h e others = stays-run run s h (frozen-until-reset s e cs others)
