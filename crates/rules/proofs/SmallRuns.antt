@@ -200,6 +200,9 @@ Headers =
     × (line AnyHeader "***TITLE 3" ≡ fault BadMarker 1)
     × (line AnyHeader "4 ***ENTRY 2" ≡ fault BadNumber 3)
     × (line AnyHeader "4 2 ***AENTRY" ≡ fault BadMarker 5)
+    × (line AnyHeader "1 ***ENDS" ≡ fault BadMarker 3)
+    × (line AnyHeader "1 ***EN" ≡ fault BadMarker 3)
+    × (line AnyHeader "1 ***end" ≡ fault BadMarker 3)
     × (line AnyHeader "4 2" ≡ fault FieldCount 4)
     × (line AnyHeader "4 2 ***ENTRY 3" ≡ fault FieldCount 14)
     × (line AnyHeader "2 ***TITLE" ≡ fault BadMarker 1)
@@ -225,6 +228,7 @@ Records =
     × (line InitRecord "A 9 * ? -" ≡ Ignored)
     × (line InitRecord "1 2 3 4" ≡ fault FieldCount 8)
     × (line InitRecord "1 2 3 4 5 6" ≡ fault FieldCount 11)
+    × (line ParameterRecord "1 2 0" ≡ Parameter 0)
     × (line ParameterRecord "1 2 7" ≡ Parameter 7)
     × (line ParameterRecord "1 2 10" ≡ fault BadNumber 5)
     × (line SubRecord "1 2" ≡ Sub)
@@ -240,6 +244,8 @@ CodeWords =
     × (line CodeRecord "200000 2 3 4" ≡ fault BadNumber 1)
     × (line CodeRecord "* 1 2 3 4 0 5 1" ≡ word 0x0001_0002_0003_0004 (External 1))
     × (line CodeRecord "* 1 2 3 4 00 000005 1" ≡ word 0x0001_0002_0003_0004 (External 1))
+    × (line CodeRecord "*3 1 2 3 4 0 5 1" ≡ fault BadNumber 1)
+    × (line CodeRecord "** 1 2 3 4 0 5 1" ≡ fault BadNumber 1)
     × (line CodeRecord "* 1 2 3 4 0 1 1" ≡ word 0x0001_0002_0003_0004 (Unread 1))
     × (line CodeRecord "* 1 2 3 4 0 4 1" ≡ word 0x0001_0002_0003_0004 (Unread 4))
     × (line CodeRecord "* 1 2 3 4 1 5 1" ≡ fault BadType 11)
@@ -313,7 +319,7 @@ Files =
     (file "" ≡ Complete)
     × (file "3 ***TITLE\nA\n1 ***END\nA\n" ≡ Complete)
     × (file "6 ***LSB\n7 ***LEB" ≡ Complete)
-    × (file "3 ***TITLE\nA\n12 2 ***FPB\n0 0 1\n0 0\n0 0 2\n0 0\n0 0\n1 ***END\nA\n" ≡ Complete)
+    × (file "3 ***TITLE\nA\n12 3 ***FPB\n0 0 0\n0 0 1\n0 0\n0 0 2\n0 0\n0 0\n1 ***END\nA\n" ≡ Complete)
     × (file "3 ***TITLE" ≡ Stopped 7 2 0)
     × (file "3 ***TITLE\nA\n\n" ≡ Stopped 7 4 0)
     × (file "6 ***LSB\n" ≡ Stopped 7 2 0)
@@ -498,9 +504,9 @@ unfolding Load.takenAt Load.takenIn Load.sectionsAt Load.sectionsIn Search.count
 small-table = (
   (refl, refl, refl, refl, refl),
   (refl, refl, refl, refl, refl, refl, refl, refl, refl),
-  (refl, refl, refl, refl, refl, refl, refl, refl, refl, refl, refl, refl, refl, refl, refl, refl, refl, refl, refl, refl),
-  (refl, refl, refl, refl, refl, refl, refl, refl, refl, refl, refl, refl, refl, refl, refl, refl, refl, refl, refl, refl, refl),
-  (refl, refl, refl, refl, refl, refl, refl, refl, refl, refl, refl, refl, refl),
+  (refl, refl, refl, refl, refl, refl, refl, refl, refl, refl, refl, refl, refl, refl, refl, refl, refl, refl, refl, refl, refl, refl, refl),
+  (refl, refl, refl, refl, refl, refl, refl, refl, refl, refl, refl, refl, refl, refl, refl, refl, refl, refl, refl, refl, refl, refl),
+  (refl, refl, refl, refl, refl, refl, refl, refl, refl, refl, refl, refl, refl, refl, refl),
   (refl, refl, refl, refl, refl, refl, refl, refl, refl, refl, refl, refl, refl, refl, refl, refl, refl, refl, refl, refl, refl, refl, refl, refl, refl, refl, refl, refl, refl, refl, refl, refl, refl, refl, refl, refl, refl, refl, refl, refl),
   (refl, refl, refl, refl, refl, refl, refl, refl, refl, refl, refl, refl),
   (refl, refl, refl, refl, refl, refl, refl, refl, refl, refl, refl, refl, refl, refl, refl, refl, refl),
