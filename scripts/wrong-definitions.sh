@@ -6,7 +6,7 @@
 #   scripts/wrong-definitions.sh [FILE ...]    the places of crates/rules/specs/FILE.antt; of all files if none is named
 #
 # Where a spoilt place changes nothing that a call can show, missed/definitions.txt has it with the reason. Any other that is not
-# noticed is told, and then the status is 1. Three to four seconds a place on two processors, some 35 minutes for all 556.
+# noticed is told, and then the status is 1. Some four seconds a place on two processors.
 set -eu
 cd "$(dirname "$0")/.."
 specs=crates/rules/specs
