@@ -1,6 +1,6 @@
 #!/usr/bin/env bash
 # Tries the wrong programs of must-fail-slow/. They are must-fail edits like those of crates/*/must-fail, but of crates that take long
-# to check, so the gate has some of each such crate and the rest stand here. Some fifteen minutes for all.
+# to check, so the gate has some of most crates and the rest stand here, to be tried before a landing.
 #
 #   scripts/must-fail-slow.sh [CRATE ...]    those of these crates
 set -eu
