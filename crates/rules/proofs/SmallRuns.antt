@@ -225,7 +225,7 @@ Records =
     × (line ExternalRecord "A B" ≡ fault FieldCount 3)
     × (line DataRecord "1 2" ≡ Ignored)
     × (line DataRecord "1" ≡ fault FieldCount 2)
-    × (line InitRecord "A 9 * ? -" ≡ Ignored)
+    × (line InitRecord "A 9 * # -" ≡ Ignored)
     × (line InitRecord "1 2 3 4" ≡ fault FieldCount 8)
     × (line InitRecord "1 2 3 4 5 6" ≡ fault FieldCount 11)
     × (line ParameterRecord "1 2 0" ≡ Parameter 0)
