@@ -81,7 +81,8 @@ lnk100_call_answer lnk100_force(uint64_t *state, size_t state_len, const uint8_t
 /* Sets the next address, 0 to 4,095, and changes nothing else. Refused by 1 to 4, then 12; then the state is as it was. */
 lnk100_call_answer lnk100_base(uint64_t *state, size_t state_len, uint64_t address);
 
-/* `high` is HIGH, the next address less one, and 65,535 when that address is 0. Refused by 1 and 2. Changes nothing. */
+/* `high` is HIGH, the highest address that holds a placed word, wherever the next address is, and 65,535 where no word is placed. END
+ * writes the same number. Refused by 1 and 2. Changes nothing, and works on broken and frozen states. */
 lnk100_memory_answer lnk100_memory(const uint64_t *state, size_t state_len);
 
 /* The symbol at an index from 0, in the order in which names were first met: `value` is 0 to 65,535, `defined` 1, or both are 0. Past

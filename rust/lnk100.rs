@@ -118,7 +118,7 @@ impl Linker {
         done(a.number, a.line, ())
     }
 
-    /// HIGH, `NO_ADDRESS` while the next address is 0.
+    /// HIGH, the highest address that holds a placed word; `NO_ADDRESS` where no word is placed.
     pub fn high(&self) -> Result<u64, Refused> {
         let a = unsafe { calls::lnk100_memory(self.state.as_ptr(), self.state.len()) };
         done(a.number, a.line, a.high)

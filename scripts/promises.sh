@@ -1,10 +1,11 @@
 #!/usr/bin/env bash
 # Holds docs/PROMISES.md to the repository: each name under Definition and Proof stands in the file that it names, each edit has
 # its file and each edit's file a row, each function under Code is in its crate, and no column is empty. And to the papers: each
-# of their sentences has a row by its place, each place in a row is a sentence's, and each heading has its section's range. Where
-# the papers are not at hand, the ranges in the headings stand for them. Seconds.
+# of their sentences has a row by its place, each place in a row is a sentence's, and each heading has its section's range. Of
+# paper 02 that is asked of the requests that have landed: those with a note in docs/changes. Where the papers are not at hand, the
+# ranges in the headings stand for them. Seconds.
 #
-#   scripts/promises.sh [PAPERS]    the folder of 00-demands.md and 01-scope.md; ../shared if none is named
+#   scripts/promises.sh [PAPERS]    the folder of 00-demands.md, 01-scope.md and 02-change-requests.md; ../shared if none is named
 set -u
 cd "$(dirname "$0")/.." || exit 2
 doc=docs/PROMISES.md
@@ -85,19 +86,27 @@ sentences() { # PAPER FILE OPENS WORDS: OPENS matches the lines that open a sect
     }' "$2"
 }
 
-# The same of both papers. 00 has no headings, so each of its paragraphs opens a section, and the first two are one.
+# The sections of 02 that are asked for: its first paragraph, and a request N/14 as rN if it has a note.
+landed() {
+  echo landings
+  ls docs/changes | sed -nE 's/^0*([0-9]+)-.*\.md$/r\1/p'
+}
+
+# The same of all papers. 00 and 02 have no headings, so each of their paragraphs opens a section; the first two of 00 are one.
 in_papers() {
   sentences 00 "$papers/00-demands.md" '^[^#]' 'aim aim demand1 demand2 demand3 later gate'
   sentences 01 "$papers/01-scope.md" '^## ' 'edges bounds lines placing searching answers image runs slips promises forms'
+  sentences 02 "$papers/02-change-requests.md" '^[^#]' "landings $(seq -s ' ' -f 'r%g' 14)" |
+    grep -E "^02 ($(landed | paste -sd '|')) "
 }
 
 # The same by the headings of the document: '## Document 01, "The lines": lines 1 to 27'.
 in_headings() {
-  sed -nE 's/^## Document (0[01]), .*: ([a-z0-9]+) 1 to ([0-9]+)$/\1 \2 \3/p' "$doc" |
+  sed -nE 's/^## Document (0[012]), .*: ([a-z0-9]+) 1 to ([0-9]+)$/\1 \2 \3/p' "$doc" |
     while read -r paper section last; do seq -f "$paper $section %g" "$last"; done
 }
 
-if [ -f "$papers/00-demands.md" ] && [ -f "$papers/01-scope.md" ]; then
+if [ -f "$papers/00-demands.md" ] && [ -f "$papers/01-scope.md" ] && [ -f "$papers/02-change-requests.md" ]; then
   places=$(in_papers)
   while read -r side place; do
     case $side in

@@ -66,7 +66,7 @@ unfolding undefined undefinedAt fresh State.undefinedOnly
 fresh-undefined i = rw (le-ltb i 0 (omega arith))
 
 fresh-memory : memory (holding fresh) ≡ memoryAnswer 0 65535
-unfolding memory State.high fresh
+unfolding memory State.highestWhere State.highestFrom fresh State.noWords
 fresh-memory = refl
 
 module _ (cells next : List ℕ) (a : CallAnswer) (c : Called (reset (lent cells)) cells a next) (e : length cells ≡ size) where

@@ -8,7 +8,7 @@ use lib.ListN.{length, getD, take, drop}
 use lib.Seq.{take-append-seam}
 use lib.Dec.{ltb}
 use borrow.Author.Tests.{ltb-false}
-use Rattle.rules.specs.State.{State, Mark, frozen, marked, high, placedWords, sound}
+use Rattle.rules.specs.State.{State, Mark, frozen, marked, placedWords, sound}
 use Rattle.rules.specs.Image.{imageOf, endRecord}
 use Rattle.rules.specs.Calls.{Lent, wrongLength, damaged, holding, Left, now, Outcome, EndOutcome, endAnswer, endStopped, endDone, overwritten, isBroken, endState, end}
 use Rattle.rules.specs.History.{ending, leftBy, stateAfter, called}
@@ -119,7 +119,7 @@ image-written cells out r after written d s h =
 -- ---- END again, of the frozen state
 
 marked-image : (k : Mark) (s : State) → imageOf (marked k s) ≡ imageOf s
-unfolding imageOf endRecord high
+unfolding imageOf endRecord
 marked-image k s = refl
 
 frozen-unbroken : isBroken frozen ≡ false

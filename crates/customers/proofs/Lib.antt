@@ -4,3 +4,4 @@ pub mod RefusedLaws
 pub mod LoadLaws
 pub mod NameLaws
 pub mod ImageLaws
+pub mod StepLaws

@@ -1,30 +1,30 @@
 -- FORCE and BASE, from the fresh state.
-use Prim.Native.Nat.{ℕ, zero, suc, _+_, _-_, _≤_, _<_}
+use Prim.Native.Nat.{ℕ, _≤_, _<_}
 use native.Mathlib.Omega.{arith}
 use mathlib.Core.Bool.{true, false}
 use mathlib.Core.List.{List, [], _∷_}
 use mathlib.Core.Path.{_≡_, refl, sym, ap, _∙_}
-use lib.ListN.{replicate}
-use borrow.Author.Tests.{ne-eqb}
 use Rattle.rules.specs.Text as Text
 use Rattle.rules.specs.Text.{isName, packName}
 use Rattle.rules.specs.State as State
-use Rattle.rules.specs.State.{State, state, unplaced, fresh, noWords, positionOf, undefinedOnly, highestFrom, highest, high, sound}
+use Rattle.rules.specs.State.{State, state, unplaced, fresh, noWords, positionOf, undefinedOnly, highestFrom, highestWhere, highest, sound}
 use Rattle.rules.specs.Placing as Placing
 use Rattle.rules.specs.Placing.{mention}
-use Rattle.rules.specs.Calls.{Lent, holding, Left, now, Outcome, stopped, done, callAnswer, withSymbols, reset, force, base, memory, memoryAnswer, undefined, undefinedAt}
-use Rattle.rules.specs.History.{Call, forcing, basing, leftBy, stateAfter, called}
+use Rattle.rules.specs.Calls.{Lent, holding, Left, now, Outcome, stopped, done, callAnswer, withSymbols, load, reset, force, base, symbols, undefined, undefinedAt}
+use Rattle.rules.specs.History.{Call, forcing, basing, workFits, leftBy, stateAfter, called}
 use Rattle.rules.specs.declared.answer.CallAnswer.{CallAnswer}
-use Rattle.rules.specs.declared.answer.MemoryAnswer.{MemoryAnswer}
+use Rattle.rules.specs.declared.answer.LoadAnswer.{LoadAnswer}
+use Rattle.rules.specs.declared.answer.SymbolAnswer.{SymbolAnswer}
 use Rattle.rules.specs.declared.answer.UndefinedAnswer.{UndefinedAnswer}
 use Rattle.rules.proofs.OrderLaws.{force-no-name, force-new, base-over, base-moves}
 use Rattle.rules.proofs.SoundCalls.{called-sound, fresh-is-sound}
 use Rattle.state.specs.Layout.{lent, cellsAfter}
-use Rattle.state.specs.Promise.{Called}
+use Rattle.state.specs.Promise.{Called, LoadCalled}
 use Rattle.state.proofs.LentLaws.{lent-encode}
 use Rattle.customers.specs.Words.{forcedOnly, Forced, Moved}
 use Rattle.customers.proofs.LentBefore.{answer-is, holds-then}
 use Rattle.customers.proofs.FreshLaws.{reset-holds}
+use Rattle.customers.proofs.LoadLaws.{listed}
 
 -- ---- FORCE
 
@@ -43,14 +43,9 @@ module _ (name : List ℕ) (legal : isName name ≡ true) where
       ∙ called-sound fresh (forcing name) fresh-is-sound
 
 -- no word of the fresh state refers to anything
-none-refer : (n i a k : ℕ) → highestFrom i a k (replicate n unplaced) ≡ k
-unfolding highestFrom
-none-refer zero i a k = refl
-none-refer (suc n) i a k = none-refer n i (a + 1) k
-
 none-refers : (i : ℕ) → highest i (fresh .words) ≡ 65535
-unfolding highest fresh noWords
-none-refers i = none-refer 4096 i 0 65535
+unfolding highestWhere highestFrom fresh noWords
+none-refers i = refl
 
 forced-listed : (name : List ℕ) → undefined (holding (forced name)) 0 ≡ forcedOnly (packName name)
 unfolding undefined undefinedAt undefinedOnly mention fresh
@@ -79,10 +74,6 @@ module _ (address : ℕ) (low : address ≤ 4095) where
       sym (ap (λ (o : Outcome CallAnswer). sound (stateAfter fresh (o .left))) base-fresh)
       ∙ called-sound fresh (basing address) fresh-is-sound
 
-moved-asked : (address : ℕ) → 1 ≤ address → memory (holding (moved address)) ≡ memoryAnswer 0 (address - 1)
-unfolding memory high
-moved-asked address some = rw (ne-eqb address 0 (omega arith))
-
 base-refused : (address : ℕ) → 4095 < address → base (holding fresh) address ≡ stopped 12
 unfolding fresh
 base-refused address over = base-over fresh address refl over
@@ -101,13 +92,18 @@ module _ (cells cleared : List ℕ) (a : CallAnswer) (c : Called (reset (lent ce
             answer-is f cleared after r d (holding fresh) (reset-holds cells cleared a c long) (stopped 15) (force-refused name illegal);
       }
 
-  pub moved-as-told : (address : ℕ) (q : MemoryAnswer) → Called (base (lent cleared) address) cleared r after → q ≡ memory (lent after) → Moved cells address r q
-  moved-as-told address q d e =
+  pub moved-as-told :
+      (address : ℕ) (work file : List ℕ) (index : ℕ) (q : LoadAnswer) (last used : List ℕ) (y : SymbolAnswer)
+      → Called (base (lent cleared) address) cleared r after
+      → LoadCalled (load (lent after) (workFits work) file) after work q last used → y ≡ symbols (lent last) index
+      → Moved cells address file index r q y
+  unfolding fresh
+  moved-as-told address work file index q last used y d l e =
       let f : Lent → Outcome CallAnswer = λ m. base m address in
       record {
-        moves = λ long some low.
+        moves = λ long low z.
             let here = holds-then f cleared after r d (holding fresh) (reset-holds cells cleared a c long) (done (moved address)) (base-fresh address low) (moved address) refl (moved-sound address low) in
-            e ∙ ap memory here ∙ moved-asked address some;
+            listed after work file q last used l index y e z (moved address) here;
         refused = λ long over.
             answer-is f cleared after r d (holding fresh) (reset-holds cells cleared a c long) (stopped 12) (base-refused address over);
       }

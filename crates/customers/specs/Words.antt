@@ -1,5 +1,5 @@
 -- The customers' contracts, in the user's words.
-use Prim.Native.Nat.{ℕ, _+_, _-_, _*_, _≤_, _<_}
+use Prim.Native.Nat.{ℕ, _+_, _*_, _≤_, _<_}
 use mathlib.Core.Bool.{true, false}
 use mathlib.Core.List.{List, [], _∷_}
 use mathlib.Core.Logic.{_≢_}
@@ -8,10 +8,10 @@ use lib.ListN.{length, getD, take, replicate}
 use Rattle.rules.specs.Limits.{longestFile, workSize}
 use Rattle.rules.specs.Text.{isName, packName}
 use Rattle.rules.specs.Reading.{Module, section, readingOf, itemsOf}
-use Rattle.rules.specs.State.{State, unmarked, placedWords}
+use Rattle.rules.specs.State.{State, state, unmarked, noWords, placedWords}
 use Rattle.rules.specs.Load.{progress, walking, searched, walkFrom, takenIn, sectionsIn}
 use Rattle.rules.specs.Image.{imageOf}
-use Rattle.rules.specs.Calls.{holding, workAfter, loadAnswer, callAnswer, memoryAnswer, endAnswer, symbolAt}
+use Rattle.rules.specs.Calls.{holding, workAfter, loadAnswer, callAnswer, endAnswer, symbolAt}
 use Rattle.rules.specs.Demand.{LeastSufficient}
 use Rattle.rules.specs.History.{resetting, loading, ending, ofCall, ofLoad, ofEnd}
 use Rattle.rules.specs.declared.reading.Reading.the-variants.{Stopped}
@@ -120,10 +120,18 @@ pub record Forced (before name : List ℕ) (r : CallAnswer) (listed : UndefinedA
   pub joins : length before ≡ size → isName name ≡ true → listed ≡ forcedOnly (packName name)
   pub refused : length before ≡ size → isName name ≡ false → r ≡ callAnswer 15
 
--- HIGH is the address before the base; a base over 4,095 is refused by 12
-pub record Moved (before : List ℕ) (address : ℕ) (r : CallAnswer) (asked : MemoryAnswer) : Type 0 where
-  pub moves : length before ≡ size → 1 ≤ address → address ≤ 4095 → asked ≡ memoryAnswer 0 (address - 1)
+-- the symbols that an accepted load then lists are those of a walk from that base; a base over 4,095 is refused by 12
+pub record Moved (before : List ℕ) (address : ℕ) (file : List ℕ) (index : ℕ) (r : CallAnswer) (load : LoadAnswer) (listed : SymbolAnswer) : Type 0 where
+  pub moves : length before ≡ size → address ≤ 4095 → load .number ≡ 0 →
+      listed ≡ symbolAt (walkFrom (state [] noWords address unmarked) (itemsOf file) .walk .state .symbols) index
   pub refused : length before ≡ size → 4095 < address → r ≡ callAnswer 12
+
+-- ---- MEMORY, before and after other calls
+
+-- the same number, and once a word is placed an address that is not lower
+pub record NotLower (before after : MemoryAnswer) : Type 0 where
+  pub as-told : after .number ≡ before .number
+  pub high : before .high ≢ 65535 → (before .high ≤ after .high) × (after .high ≢ 65535)
 
 -- ---- END
 

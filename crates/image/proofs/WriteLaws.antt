@@ -132,7 +132,7 @@ unfolding imageOf endRecord two
 image-words s = length-append (wordsOf s) (endRecord s)
 
 pub image-written : (s : State) (out₀ out out′ : List ℕ) (n h u : ℕ) →
-    Written 0 (wordsOf s) out₀ out n → h ≡ high s → u ≡ length (undefinedOnly (s .symbols)) →
+    Written 0 (wordsOf s) out₀ out n → h ≡ high (s .words) → u ≡ length (undefinedOnly (s .symbols)) →
     out′ ≡ overlay n (endBytes h u) out → Written 0 (imageOf s) out₀ out′ (n + 5)
 unfolding imageOf endRecord
 image-written s out₀ out out′ n h u w p q e =

@@ -1,11 +1,11 @@
 // END's output: a record for each placed word, then the end record.
 use rules::limits::PROGRAM_WORDS;
-use state::header::high;
 use state::layout::PLAIN;
 use state::layout::REFERENCE;
 use state::layout::UNPLACED;
 use state::table::undefined_count;
 use state::table::value_of;
+use state::words::high;
 use state::words::tag;
 use state::words::text;
 ghost use mathlib.Core.List.{_∷_};
@@ -149,6 +149,6 @@ pub fn write_image(state: &[u64], out: &mut [u8]) -> usize
 {
     let n = write_words(state, out);
     let undefined = undefined_count(state);
-    put_end(out, n, high(state), undefined as u64);
+    put_end(out, n, high(state) as u64, undefined as u64);
     n + END_BYTES
 }

@@ -133,7 +133,7 @@ undefined-out (s ∷ t) k h = go (s .defined) refl k h (undefined-out t)
 -- ---- the answers, from memory that holds a state
 
 module _ (cells : List ℕ) (s : State) (h : lent cells ≡ holding s) where
-  pub memory-is : (n : ℕ) → n ≡ high s → memoryAnswer 0 n ≡ memory (lent cells)
+  pub memory-is : (n : ℕ) → n ≡ high (s .words) → memoryAnswer 0 n ≡ memory (lent cells)
   unfolding memory
   memory-is n e = rw (h, e)
 

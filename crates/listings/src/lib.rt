@@ -4,10 +4,10 @@ use rules::answer::MemoryAnswer;
 use rules::answer::SymbolAnswer;
 use rules::answer::UndefinedAnswer;
 use soundness::memory::refusal;
-use state::header::high;
 use state::header::symbol_count;
 use state::table::symbol_at;
 use state::table::undefined_position;
+use state::words::high;
 use state::words::highest;
 ghost use mathlib.Core.Path.{_≡_};
 ghost use Rattle.rules.specs.Calls.{symbolNone, undefinedNone, memory as memory-answer, symbols as symbols-answer, undefined as undefined-answer};
@@ -28,7 +28,7 @@ pub fn memory(state: &[u64]) -> MemoryAnswer
     MemoryAnswer {
         number: DONE,
         line: 0,
-        high: high(state),
+        high: high(state) as u64,
     }
 }
 

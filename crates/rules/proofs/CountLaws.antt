@@ -29,7 +29,7 @@ map-set f [] i a = refl
 map-set f (x ∷ l) zero a = refl
 map-set f (x ∷ l) (suc i) a = ap (λ t. f x ∷ t) (map-set f l i a)
 
-linked-placed : (xs : List ℕ) (t : List Symbol) (text : ℕ) (r : Relocation) → isPlaced (linked xs t text r) ≡ true
+pub linked-placed : (xs : List ℕ) (t : List Symbol) (text : ℕ) (r : Relocation) → isPlaced (linked xs t text r) ≡ true
 unfolding linked
 linked-placed xs t text Plain = refl
 linked-placed xs t text (External k) = refl

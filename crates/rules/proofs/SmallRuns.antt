@@ -5,7 +5,7 @@ use Prim.Native.String.{String}
 use mathlib.Core.Bool.{Bool, true, false, cond}
 use mathlib.Core.List.{List, [], _∷_, _++_}
 use mathlib.Core.Path.{_≡_, refl}
-use lib.ListN.{take, replicate}
+use lib.ListN.{take, drop, replicate}
 use Rattle.rules.specs.Text as Text
 use Rattle.rules.specs.Answers as Answers
 use Rattle.rules.specs.Line as Line
@@ -13,8 +13,9 @@ use Rattle.rules.specs.Reading as Reading
 use Rattle.rules.specs.State as State
 use Rattle.rules.specs.Calls as Calls
 use Rattle.rules.specs.History as History
-use Rattle.rules.specs.History.{Call, loading, forcing, basing, resetting, askingHigh, listing, listingUndefined, ending, workFits, canAnswer}
+use Rattle.rules.specs.History.{Call, loading, forcing, basing, resetting, askingHigh, listing, listingUndefined, ending, workFits, canAnswer, calledAll}
 use Rattle.rules.specs.Image as Image
+use Rattle.rules.specs.Image.{imageOf}
 use Rattle.rules.specs.Placing as Placing
 use Rattle.rules.specs.Search as Search
 use Rattle.rules.specs.Load as Load
@@ -79,10 +80,10 @@ entry x v r p = Entered (record { name = name x; value = v; relocated = r; param
 abbrev file : String → Reading
 file text = readingOf (bytes text)
 
--- two symbols, of which the second is undefined and is referred to from 0 and 2
+-- two symbols, of which the second is undefined and is referred to from 0 and 2; the next address is 1, after a step back
 abbrev linked : Mark → State
 linked k =
-    state (symbol (name "A") 5 true ∷ symbol (name "B") 0 false ∷ []) (refers 7 1 ∷ plain 1 ∷ refers 8 1 ∷ unplaced ∷ []) 3 k
+    state (symbol (name "A") 5 true ∷ symbol (name "B") 0 false ∷ []) (refers 7 1 ∷ plain 1 ∷ refers 8 1 ∷ unplaced ∷ []) 1 k
 
 -- a module around these lines
 abbrev module-of : String → List ℕ
@@ -405,12 +406,34 @@ Soundness =
     × (sound (whole [] unplaced 4097) ≡ false)
     × (sound (state [] (replicate 4095 unplaced) 0 unmarked) ≡ false)
 
+-- the lab of 02, 1/14: BASE 200, a module of two words, BASE 0, a module of one
+abbrev work : List ℕ
+work = replicate 65536 0
+
+abbrev lab : State
+lab =
+    calledAll
+    fresh
+    (basing 0o200 ∷ loading work (module-of "0 2 0 ***CODE\n1 2 3 4\n1 2 3 4\n") ∷ basing 0 ∷ loading work (module-of "0 1 0 ***CODE\n1 2 3 4\n") ∷ [])
+
+-- HIGH, of words alone: none placed, one at 0, one at 4,095, a reference; of states: the lab's, no word behind a BASE
+abbrev Highs : Type 0
+Highs =
+    (high (fresh .words) ≡ 65535)
+    × (high (plain 0 ∷ replicate 4095 unplaced) ≡ 0)
+    × (high (replicate 4095 unplaced ++ (plain 0 ∷ [])) ≡ 4095)
+    × (high (plain 1 ∷ refers 7 0 ∷ unplaced ∷ []) ≡ 1)
+    × (high (linked unmarked .words) ≡ 2)
+    × (lab .next ≡ 1)
+    × (memory (holding lab) ≡ record { number = 0; line = 0; high = 0o201 })
+    × (drop 33 (imageOf lab) ≡ 0x45 ∷ 0 ∷ 0x81 ∷ 0 ∷ 0 ∷ [])
+    × (memory (holding (calledAll fresh (basing 0o200 ∷ []))) ≡ record { number = 0; line = 0; high = 65535 })
+    × (imageOf (calledAll fresh (basing 0o200 ∷ [])) ≡ 0x45 ∷ 255 ∷ 255 ∷ 0 ∷ 0 ∷ [])
+
 -- MEMORY, SYMBOLS and UNDEFINED
 abbrev Looking : Type 0
 Looking =
-    (high fresh ≡ 65535)
-    × (high (linked unmarked) ≡ 2)
-    × (positionOf (name "B") (linked unmarked .symbols) ≡ 1)
+    (positionOf (name "B") (linked unmarked .symbols) ≡ 1)
     × (positionOf (name "C") (linked unmarked .symbols) ≡ 2)
     × (highest 1 (linked unmarked .words) ≡ 2)
     × (highest 0 (linked unmarked .words) ≡ 65535)
@@ -499,8 +522,8 @@ Answering =
 
 -- ---- the claim
 
-pub small-table : Lines × Bytes × Headers × Records × CodeWords × Kinds × Leftmost × Files × Lists × Walks × Orders × Placed × Soundness × Looking × Lengths × Marks × Names × Answering
-unfolding Load.takenAt Load.takenIn Load.sectionsAt Load.sectionsIn Search.count times passing History.canAnswer Text.bytes Text.all Text.any Text.widenLine Text.cutLines Text.withoutEnd Text.linesOf Text.legalFront Text.startsField Text.widenField Text.addToFields Text.fieldsFrom Text.fieldsOf Text.octal Text.isNumber Text.numberOf Text.isName Text.packName Text.nameOf Text.upToZero Text.unpackName Text.isPacked Line.headers Line.rowIn Line.rowOf Line.markerIn Text.sameText Line.held Line.inBounds Line.readField Line.inFront Line.fit Line.said Line.readAs Line.recordShape Line.codeLine Line.entryLine Line.sayHeader Line.rowAt Line.firstText Line.headerLine Line.isOne Line.textAt Line.fieldsSay Line.lineOf Line.faultWithin Line.testBytes Line.lineAnswer Reading.atStart Reading.expect Reading.expectRecords Reading.recordDone Reading.expectSubs Reading.titleHeader Reading.enterModule Reading.leaveModule Reading.enterSection Reading.leaveSection Reading.countEntry Reading.countExternal Reading.titleStep Reading.libraryStep Reading.libraryEndStep Reading.headerStep Reading.closingStep Reading.entryStep Reading.externalStep Reading.parameterStep Reading.subStep Reading.stepOf Reading.unread Reading.moduleDone Reading.stepped Reading.ifComplete Reading.readLine Reading.readLines Reading.isHeader Reading.atEnd Reading.readingOf Reading.itemsOf State.noWords State.fresh State.isSymbol State.isDefined State.isUndefined State.positionOf State.undefinedOnly State.placedWords State.highestFrom State.highest State.high State.soundSymbol State.differentNames State.soundWord State.sound Placing.entriesIn Placing.externalsIn Placing.codeIn Placing.lengthIn Placing.countIn Placing.valueAt Placing.define Placing.mention Placing.defineAll Placing.mentionAll Placing.joined Placing.linked Placing.putAll Placing.noRoom Placing.overlaps Placing.badArgument Placing.badArguments Placing.outOfRange Placing.twice Placing.duplicates Placing.tableFull Placing.placingFault Placing.placed Search.noModules Search.withModule Search.visit Search.sweep Search.round Search.rounds Search.search Load.tryPlace Load.place Load.entryNames Load.isNeeded Load.takes Load.searched Load.sectionNames Load.testSection Load.walkItem Load.walkItems Load.walked Load.loadRead Load.loadFile Image.valueOf Image.completed Image.two Image.quarters Image.wordRecord Image.recordOf Image.recordsFrom Image.endRecord Image.imageOf Calls.workAfter Calls.shutBy Calls.loadState Calls.loadLent Calls.load Calls.forceState Calls.force Calls.baseState Calls.base Calls.reset Calls.memory Calls.symbolAt Calls.symbols Calls.undefinedAt Calls.undefined Calls.isBroken Calls.endState Calls.end Answers.answers Answers.nameIn Answers.answerName
+pub small-table : Lines × Bytes × Headers × Records × CodeWords × Kinds × Leftmost × Files × Lists × Walks × Orders × Placed × Soundness × Highs × Looking × Lengths × Marks × Names × Answering
+unfolding Load.takenAt Load.takenIn Load.sectionsAt Load.sectionsIn Search.count times passing History.canAnswer History.leftBy History.stateAfter History.called History.calledAll Text.bytes Text.all Text.any Text.widenLine Text.cutLines Text.withoutEnd Text.linesOf Text.legalFront Text.startsField Text.widenField Text.addToFields Text.fieldsFrom Text.fieldsOf Text.octal Text.isNumber Text.numberOf Text.isName Text.packName Text.nameOf Text.upToZero Text.unpackName Text.isPacked Line.headers Line.rowIn Line.rowOf Line.markerIn Text.sameText Line.held Line.inBounds Line.readField Line.inFront Line.fit Line.said Line.readAs Line.recordShape Line.codeLine Line.entryLine Line.sayHeader Line.rowAt Line.firstText Line.headerLine Line.isOne Line.textAt Line.fieldsSay Line.lineOf Line.faultWithin Line.testBytes Line.lineAnswer Reading.atStart Reading.expect Reading.expectRecords Reading.recordDone Reading.expectSubs Reading.titleHeader Reading.enterModule Reading.leaveModule Reading.enterSection Reading.leaveSection Reading.countEntry Reading.countExternal Reading.titleStep Reading.libraryStep Reading.libraryEndStep Reading.headerStep Reading.closingStep Reading.entryStep Reading.externalStep Reading.parameterStep Reading.subStep Reading.stepOf Reading.unread Reading.moduleDone Reading.stepped Reading.ifComplete Reading.readLine Reading.readLines Reading.isHeader Reading.atEnd Reading.readingOf Reading.itemsOf State.noWords State.fresh State.isSymbol State.isDefined State.isUndefined State.positionOf State.undefinedOnly State.placedWords State.highestFrom State.highestWhere State.soundSymbol State.differentNames State.soundWord State.sound Placing.entriesIn Placing.externalsIn Placing.codeIn Placing.lengthIn Placing.countIn Placing.valueAt Placing.define Placing.mention Placing.defineAll Placing.mentionAll Placing.joined Placing.linked Placing.putAll Placing.noRoom Placing.overlaps Placing.badArgument Placing.badArguments Placing.outOfRange Placing.twice Placing.duplicates Placing.tableFull Placing.placingFault Placing.placed Search.noModules Search.withModule Search.visit Search.sweep Search.round Search.rounds Search.search Load.tryPlace Load.place Load.entryNames Load.isNeeded Load.takes Load.searched Load.sectionNames Load.testSection Load.walkItem Load.walkItems Load.walked Load.loadRead Load.loadFile Image.valueOf Image.completed Image.two Image.quarters Image.wordRecord Image.recordOf Image.recordsFrom Image.endRecord Image.imageOf Calls.workAfter Calls.shutBy Calls.loadState Calls.loadLent Calls.load Calls.forceState Calls.force Calls.baseState Calls.base Calls.reset Calls.memory Calls.symbolAt Calls.symbols Calls.undefinedAt Calls.undefined Calls.isBroken Calls.endState Calls.end Answers.answers Answers.nameIn Answers.answerName
 small-table = (
   (refl, refl, refl, refl, refl),
   (refl, refl, refl, refl, refl, refl, refl, refl, refl),
@@ -515,7 +538,8 @@ small-table = (
   (refl, refl, refl, refl, refl, refl),
   (refl, refl, refl, refl, refl, refl),
   (refl, refl, refl, refl, refl, refl, refl, refl, refl, refl),
-  (refl, refl, refl, refl, refl, refl, refl, refl, refl, refl, refl, refl),
+  (refl, refl, refl, refl, refl, refl, refl, refl, refl, refl),
+  (refl, refl, refl, refl, refl, refl, refl, refl, refl, refl),
   (refl, refl, refl, refl, refl, refl, refl, refl, refl, refl, refl, refl, refl, refl, refl, refl, refl, refl, refl, refl, refl),
   (refl, refl, refl, refl, refl, refl, refl, refl, refl, refl, refl, refl, refl),
   (refl, refl, refl, refl, refl, refl, refl, refl, refl, refl, refl, refl, refl, refl, refl, refl, refl, refl),

@@ -131,7 +131,7 @@ memoryAnswer k h = record { number = k; line = 0; high = h }
 unfoldable pub memory : Lent → MemoryAnswer
 memory wrongLength = memoryAnswer BUFFER 0
 memory damaged = memoryAnswer DAMAGED 0
-memory (holding s) = memoryAnswer DONE (high s)
+memory (holding s) = memoryAnswer DONE (high (s .words))
 
 abbrev pub bit : Bool → ℕ
 bit b = cond b 1 0

@@ -37,7 +37,7 @@ recordsFrom t a (w ∷ ws) = recordOf t a w ++ recordsFrom t (a + 1) ws
 
 -- "Kind 45 hex, last: HIGH, count of undefined symbols (4 bytes)."
 unfoldable pub endRecord : State → List ℕ
-endRecord s = 0x45 ∷ two (high s) ++ two (length (undefinedOnly (s .symbols)))
+endRecord s = 0x45 ∷ two (high (s .words)) ++ two (length (undefinedOnly (s .symbols)))
 
 unfoldable pub imageOf : State → List ℕ
 imageOf s = recordsFrom (s .symbols) 0 (s .words) ++ endRecord s

@@ -87,17 +87,22 @@ refersTo i unplaced = false
 refersTo i (plain x) = false
 refersTo i (refers x j) = eqb i j
 
--- "the highest address that refers to it, 65,535 if none", in words from address a on, after the highest so far
-unfoldable pub highestFrom : ℕ → ℕ → ℕ → List Word → ℕ
-highestFrom i a so-far [] = so-far
-highestFrom i a so-far (w ∷ ws) = highestFrom i (a + 1) (cond (refersTo i w) a so-far) ws
+-- the highest address whose word passes a test, in words from address a on, after the highest so far
+unfoldable pub highestFrom : (Word → Bool) → ℕ → ℕ → List Word → ℕ
+highestFrom p a so-far [] = so-far
+highestFrom p a so-far (w ∷ ws) = highestFrom p (a + 1) (cond (p w) a so-far) ws
 
-unfoldable pub highest : ℕ → List Word → ℕ
-highest i ws = highestFrom i 0 noAddress ws
+-- and in all words, "65,535 if none"
+unfoldable pub highestWhere : (Word → Bool) → List Word → ℕ
+highestWhere p ws = highestFrom p 0 noAddress ws
 
--- "HIGH, the next address less one, or 65,535 when that address is 0"
-unfoldable pub high : State → ℕ
-high s = cond (eqb (s .next) 0) noAddress (s .next - 1)
+-- "the highest address that refers to it"
+abbrev pub highest : ℕ → List Word → ℕ
+highest i ws = highestWhere (refersTo i) ws
+
+-- document 02, 1/14: HIGH is "the highest address that holds a placed word", "and 65,535 when no word is placed"
+abbrev pub high : List Word → ℕ
+high ws = highestWhere isPlaced ws
 
 -- ---- soundness
 

@@ -12,4 +12,5 @@ pub mod LentLaws
 pub mod PromiseLaws
 pub mod SequenceLaws
 pub mod LastWeek
+pub mod StepBack
 pub mod CallLaws

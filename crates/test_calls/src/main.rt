@@ -433,6 +433,23 @@ fn limits(state: &mut [u64; STATE_CELLS]) {
     end(state, 16);
 }
 
+// One word, and the next address elsewhere.
+fn alone(state: &mut [u64; STATE_CELLS], address: usize, next: u64) {
+    make_fresh(state);
+    place(state, address, 7, 1);
+    set(state, 1, next);
+    memory(state);
+    end(state, 16);
+}
+
+fn highs(state: &mut [u64; STATE_CELLS]) {
+    title(b"a word alone: at 0, 7, 8 and 4,095");
+    alone(state, 0, 4096);
+    alone(state, 7, 1);
+    alone(state, 8, 8);
+    alone(state, 4095, 0);
+}
+
 fn never_reset(state: &mut [u64; STATE_CELLS]) {
     title(b"never reset");
     force(state, b"NEW");
@@ -541,6 +558,7 @@ fn main() {
     prepared(&mut state);
     broken(&mut state);
     limits(&mut state);
+    highs(&mut state);
     each_clause();
     lengths();
 }

@@ -6,7 +6,7 @@ use Rattle.image.proofs.write_image.Statement.{statement}
 use Rattle.image.proofs.write_image.Tie as tie
 use Rattle.image.proofs.write_image.Reads as reads
 use Rattle.image.proofs.write_image.Lts as lts
-use Rattle.state.proofs.header.high.Reads as high-reads
+use Rattle.state.proofs.words.high.Reads as high-reads
 use Rattle.image.proofs.put_end.Reads as put-end-reads
 use Rattle.image.proofs.write_words.Reads as write-words-reads
 use Rattle.state.proofs.table.undefined_count.Reads as undefined-count-reads

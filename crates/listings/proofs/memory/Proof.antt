@@ -8,7 +8,7 @@ use Rattle.listings.proofs.memory.Statement.{statement}
 use Rattle.listings.proofs.memory.Tie as tie
 use Rattle.listings.proofs.memory.Reads as reads
 use Rattle.listings.proofs.memory.Lts as lts
-use Rattle.state.proofs.header.high.Reads as high-reads
+use Rattle.state.proofs.words.high.Reads as high-reads
 use Rattle.soundness.proofs.memory.refusal.Reads as refusal-reads
 
 refusal-requires : tie.Need-refusal-requires

@@ -1,6 +1,6 @@
-use Rattle.state.proofs.WordLaws.{highest-all, highest-here, highest-lower, highest-none}
+use Rattle.state.proofs.WordLaws.{highest-all, highest-here, highest-lower, highest-none, refers-yes, refers-no}
 use Rattle.state.specs.Layout.{wordsBelow, decode}
-use Rattle.rules.specs.State.{highest}
+use Rattle.rules.specs.State.{refersTo, highest}
 use native.Mathlib.Omega.{arith}
 use mathlib.Core.Path.{_≡_, refl}
 use Prim.Native.Nat.{_+_, _-_}
@@ -18,7 +18,7 @@ add-reference : tie.Need-add-reference Inv-loop μ-loop
 add-reference c = omega arith
 
 loop-holds : tie.Need-loop-holds Inv-loop μ-loop
-loop-holds c = (refl, highest-all _ _)
+loop-holds c = (refl, highest-all (refersTo (c .args .symbol)) _)
 
 sub-a : tie.Need-sub-a Inv-loop μ-loop
 sub-a c = omega arith
@@ -33,7 +33,11 @@ shared-slice-read-if1 : tie.Need-shared-slice-read-if1 Inv-loop μ-loop
 shared-slice-read-if1 c = omega arith
 
 returns : tie.Need-returns Inv-loop μ-loop
-returns c = omega (arith, highest-here (c .before .before .before .before .args .state .now) (c .before .before .before .before .args .symbol) (4095 - (c .before .before .before .loop .i)) (4096 - (c .before .before .before .loop .i)) (omega arith) (omega (arith, c .if1 .taken)))
+returns c =
+    let cells = c .before .before .before .before .args .state .now in
+    let symbol = c .before .before .before .before .args .symbol in
+    let i = c .before .before .before .loop .i in
+    omega (arith, highest-here (refersTo symbol) cells (4095 - i) (4096 - i) (omega arith) (refers-yes cells (4095 - i) symbol (omega (arith, c .if1 .taken))))
 
 add-i : tie.Need-add-i Inv-loop μ-loop
 add-i c = omega arith
@@ -42,10 +46,14 @@ loop-less : tie.Need-loop-less Inv-loop μ-loop
 loop-less c = omega arith
 
 loop-again : tie.Need-loop-again Inv-loop μ-loop
-loop-again c = (omega arith, omega (arith, highest-lower (c .before .before .before .before .args .state .now) (c .before .before .before .before .args .symbol) (4095 - (c .before .before .before .loop .i)) (4096 - (c .before .before .before .loop .i)) (omega arith) (4096 - ((c .before .before .before .loop .i) + 1)) (omega arith) (omega (arith, c .if1 .left))))
+loop-again c =
+    let cells = c .before .before .before .before .args .state .now in
+    let symbol = c .before .before .before .before .args .symbol in
+    let i = c .before .before .before .loop .i in
+    (omega arith, omega (arith, highest-lower (refersTo symbol) cells (4095 - i) (4096 - i) (omega arith) (4096 - (i + 1)) (omega arith) (refers-no cells (4095 - i) symbol (omega (arith, c .if1 .left)))))
 
 returns-2 : tie.Need-returns-2 Inv-loop μ-loop
-returns-2 c = omega (arith, highest-none (c .before .before .args .state .now) (c .before .before .args .symbol) (4096 - c .before .loop .i) (omega arith))
+returns-2 c = omega (arith, highest-none (refersTo (c .before .before .args .symbol)) (c .before .before .args .state .now) (4096 - c .before .loop .i) (omega arith))
 
 pub highest-spec : {M : Type 1} → statement M
 highest-spec =
