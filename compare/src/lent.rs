@@ -2,8 +2,8 @@
 
 use crate::answer::{Reason, Refusal};
 use crate::calls::{CallAnswer, Calls, EndAnswer, LoadAnswer, MemoryAnswer, SymbolAnswer, UndefinedAnswer};
-use crate::linker::{self, Linker};
-use crate::memory::{self, BROKEN, MARK, NEXT, STATE_CELLS, WORK_CELLS};
+use crate::linker::Linker;
+use crate::memory::{self, BROKEN, MARK, STATE_CELLS, WORK_CELLS};
 
 #[derive(Clone, Copy, Debug, Default)]
 pub struct Lent;
@@ -35,9 +35,9 @@ impl Calls for Lent {
     }
 
     fn memory(&self, state: &[u64]) -> MemoryAnswer {
-        // The answer hangs on one cell, so the state is tested and not decoded.
+        // The answer hangs on the tags alone, so the state is tested and not decoded.
         match test_sound(state) {
-            Ok(()) => MemoryAnswer { high: linker::high(state[NEXT] as usize).into(), ..MemoryAnswer::default() },
+            Ok(()) => MemoryAnswer { high: memory::high(state).into(), ..MemoryAnswer::default() },
             Err(refusal) => MemoryAnswer { number: refusal.number(), line: refusal.line, high: 0 },
         }
     }

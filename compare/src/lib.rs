@@ -1,5 +1,6 @@
-//! A linker for FPS-100 object files by document 01, written in plain Rust from the papers alone. It shares no code with
-//! the verified linker, so that the two can be compared: call by call (`differ`) and in time (`bench`).
+//! A linker for FPS-100 object files by document 01 and request 1/14 of document 02, written in plain Rust from the papers
+//! alone. It shares no code with the verified linker, so that the two can be compared: call by call (`differ`) and in time
+//! (`bench`).
 //!
 //! - [`linker::Linker`] is the linker with its own structures; [`lent::Lent`] plays the same calls on lent memory.
 //! - [`calls::Calls`] is the interface that both the verified library and this one are called through.

@@ -12,7 +12,7 @@ pub const PROGRAM_WORDS: usize = 4096;
 pub const LARGEST_BASE: u64 = 4095;
 pub const MOST_SYMBOLS: usize = 256;
 pub const LONGEST_FILE: usize = 65_536;
-/// HIGH where the next address is 0, and the highest reference where there is none.
+/// HIGH where no word is placed, and the highest reference where there is none.
 pub const NO_ADDRESS: u16 = 65_535;
 
 const WORD_RECORD: u8 = 0x57;
@@ -111,9 +111,9 @@ impl Linker {
         *self = Linker::new();
     }
 
-    /// HIGH: the next address less one.
+    /// HIGH: the highest address that holds a placed word.
     pub fn high(&self) -> u16 {
-        high(self.next)
+        highest(&self.words.0, Option::is_some)
     }
 
     /// A symbol, by its place in the table.
@@ -127,8 +127,7 @@ impl Linker {
         let (place, symbol) =
             self.table.symbols.iter().enumerate().filter(|(_, symbol)| symbol.value.is_none()).nth(index)?;
         let refers = |word: &Option<Word>| word.is_some_and(|word| word.symbol == Some(place as u16));
-        let highest = self.words.0.iter().rposition(refers);
-        Some(Undefined { name: symbol.name, highest: highest.map_or(NO_ADDRESS, |address| address as u16) })
+        Some(Undefined { name: symbol.name, highest: highest(&self.words.0, refers) })
     }
 
     /// Writes the image into the front of `out` and tells its length.
@@ -366,10 +365,7 @@ impl Default for Words {
     }
 }
 
-/// HIGH for a next address.
-pub fn high(next: usize) -> u16 {
-    match next {
-        0 => NO_ADDRESS,
-        next => (next - 1) as u16,
-    }
+/// The highest address whose word is one of those looked for, or `NO_ADDRESS`.
+pub(crate) fn highest<T>(words: &[T], is_one: impl Fn(&T) -> bool) -> u16 {
+    words.iter().rposition(is_one).map_or(NO_ADDRESS, |address| address as u16)
 }

@@ -4,7 +4,7 @@
 
 use std::ops::Range;
 
-use crate::linker::{Linker, Mark, Table, Word, Words, MOST_SYMBOLS, PROGRAM_WORDS};
+use crate::linker::{highest, Linker, Mark, Table, Word, Words, MOST_SYMBOLS, PROGRAM_WORDS};
 use crate::name::Name;
 
 pub const STATE_CELLS: usize = 8708;
@@ -121,6 +121,11 @@ pub fn fresh() -> Vec<u64> {
 /// The words placed, in cells that are sound.
 pub fn placed(cells: &[u64]) -> usize {
     cells[TAGS].iter().filter(|&&tag| tag != UNPLACED).count()
+}
+
+/// HIGH, in cells that are sound.
+pub fn high(cells: &[u64]) -> u16 {
+    highest(&cells[TAGS], |&tag| tag != UNPLACED)
 }
 
 fn quarters_of(text: u64) -> [u16; 4] {

@@ -309,7 +309,8 @@ fn number_12_range() {
     for address in [4096, 65536, u64::MAX] {
         assert_eq!(linker.base(address), Err(too_high));
     }
-    assert_eq!(linker.high(), 4094);
+    assert_eq!(linker.load(module("A", &code(0, 1)).as_bytes()), Ok(0));
+    assert_eq!(linker.high(), 4095, "a refused BASE leaves the next address");
 }
 
 #[test]
