@@ -8,7 +8,7 @@ use compare::differ::rng::Rng;
 use compare::differ::run::{run, Options};
 use compare::lent::Lent;
 use compare::linker::Linker;
-use compare::memory::{self, BROKEN, FROZEN, MARK, STATE_CELLS};
+use compare::memory::{self, BROKEN, FROZEN, MARK, NEXT, STATE_CELLS};
 use compare::object::{Item, Module, Section};
 use compare::reader;
 
@@ -57,12 +57,14 @@ enum Mutant {
     EndClearsTheRest,
     ForceAddsAnotherName,
     MemoryReadsDamagedStates,
+    MemoryTellsTheNextAddress,
+    EndTellsTheNextAddress,
     NoneWithoutMark,
     UndefinedTellsNoReference,
 }
 
 impl Mutant {
-    const ALL: [Mutant; 19] = [
+    const ALL: [Mutant; 21] = [
         Mutant::AbsoluteEntriesMoved,
         Mutant::SearchedOnce,
         Mutant::AllTaken,
@@ -80,6 +82,8 @@ impl Mutant {
         Mutant::EndClearsTheRest,
         Mutant::ForceAddsAnotherName,
         Mutant::MemoryReadsDamagedStates,
+        Mutant::MemoryTellsTheNextAddress,
+        Mutant::EndTellsTheNextAddress,
         Mutant::NoneWithoutMark,
         Mutant::UndefinedTellsNoReference,
     ];
@@ -146,6 +150,11 @@ fn sweep(linker: &mut Linker, section: &Section) -> Result<usize, Refusal> {
     Ok(taken)
 }
 
+/// The next address less one, and 65,535 where it is 0: HIGH before request 1/14.
+fn last_address(state: &[u64]) -> u16 {
+    (state[NEXT] as u16).wrapping_sub(1)
+}
+
 impl Calls for Mutant {
     fn load(&self, state: &mut [u64], work: &mut [u64], file: &[u8]) -> LoadAnswer {
         let (before, work_before) = (state.to_vec(), work.to_vec());
@@ -197,6 +206,9 @@ impl Calls for Mutant {
     fn memory(&self, state: &[u64]) -> MemoryAnswer {
         match (self, Lent.memory(state)) {
             (Mutant::MemoryReadsDamagedStates, MemoryAnswer { number: 2, .. }) => MemoryAnswer::default(),
+            (Mutant::MemoryTellsTheNextAddress, answer @ MemoryAnswer { number: 0, .. }) => {
+                MemoryAnswer { high: last_address(state).into(), ..answer }
+            }
             (_, answer) => answer,
         }
     }
@@ -221,6 +233,9 @@ impl Calls for Mutant {
         let answer = Lent.end(state, out);
         match self {
             Mutant::EndFreezesOnRefusal if answer.number == 16 => state[MARK] = FROZEN,
+            Mutant::EndTellsTheNextAddress if answer.number == 0 => {
+                out[answer.length as usize - 4..][..2].copy_from_slice(&last_address(state).to_be_bytes());
+            }
             Mutant::EndClearsTheRest if answer.number == 0 => out[answer.length as usize..].fill(0),
             _ => {}
         }

@@ -25,11 +25,13 @@ pub struct Step {
     pub expected: Option<(u64, u64)>,
     /// The same of a load's rounds.
     pub rounds: Option<u64>,
+    /// The same of HIGH, in MEMORY's answer or in the END record.
+    pub high: Option<u64>,
 }
 
 impl From<Call> for Step {
     fn from(call: Call) -> Step {
-        Step { call, state_cells: STATE_CELLS, expected: None, rounds: None }
+        Step { call, state_cells: STATE_CELLS, expected: None, rounds: None, high: None }
     }
 }
 

@@ -1,9 +1,10 @@
-//! What a run reached: how often each call gave each answer, and how many rounds the accepted loads had. Document 01 says
-//! which answers a call can give at all; a run that is meant to reach them all names those that it missed.
+//! What a run reached: how often each call gave each answer, how many rounds the accepted loads had, and where HIGH stood.
+//! Document 01 says which answers a call can give at all; a run that is meant to reach them all names those that it missed.
 
 use std::fmt;
 
 use super::case::{Call, Origin};
+use crate::linker::NO_ADDRESS;
 
 /// A column of the table: a call, and for LOAD where its file comes from.
 #[derive(Clone, Copy, Debug, PartialEq, Eq)]
@@ -78,6 +79,9 @@ impl Column {
 /// Rounds of a load, as rows of the table: the first and last number of each.
 const ROUNDS: [(u64, u64); 9] = [(0, 0), (1, 1), (2, 2), (3, 3), (4, 4), (5, 8), (9, 16), (17, 64), (65, u64::MAX)];
 
+/// How HIGH can part from the next address less one.
+const HIGHS: [&str; 3] = ["no word", "below", "above"];
+
 #[derive(Clone, Debug, Default)]
 pub struct Coverage {
     pub calls: u64,
@@ -87,6 +91,8 @@ pub struct Coverage {
     pub most_rounds: u64,
     /// SYMBOLS and UNDEFINED past the end of their list.
     past_end: [u64; 2],
+    /// HIGH of MEMORY and of END, where it parts from the next address less one.
+    highs: [[u64; HIGHS.len()]; 2],
 }
 
 impl Coverage {
@@ -106,6 +112,18 @@ impl Coverage {
 
     pub fn note_past_end(&mut self, column: Column) {
         self.past_end[usize::from(column == Undefined)] += 1;
+    }
+
+    /// Counts a HIGH that the next address does not tell.
+    pub fn note_high(&mut self, column: Column, high: u64, next: u64) {
+        let none = u64::from(NO_ADDRESS);
+        let kind = match next.checked_sub(1).unwrap_or(none) {
+            last if high == last => return,
+            _ if high == none => 0,
+            _ if high < next => 1,
+            _ => 2,
+        };
+        self.highs[usize::from(column == End)][kind] += 1;
     }
 
     /// How often a column had an answer.
@@ -138,6 +156,11 @@ impl Coverage {
         for (count, name) in self.past_end.iter().zip(["SYMBOLS", "UNDEFINED"]) {
             if *count == 0 {
                 missing.push(format!("{name} past its end"));
+            }
+        }
+        for (counts, name) in self.highs.iter().zip(["MEMORY", "END"]) {
+            for (_, kind) in counts.iter().zip(HIGHS).filter(|(&count, _)| count == 0) {
+                missing.push(format!("HIGH of {name} apart from the next address: {kind}"));
             }
         }
         missing
@@ -177,6 +200,8 @@ impl fmt::Display for Coverage {
             writeln!(f, "{:>24}   {none:7}   {one:8}   {several:12}", shown(first, last))?;
         }
         let [symbols, undefined] = self.past_end;
-        write!(f, "past the end of the list: SYMBOLS {symbols}, UNDEFINED {undefined}")
+        writeln!(f, "past the end of the list: SYMBOLS {symbols}, UNDEFINED {undefined}")?;
+        let [memory, end] = self.highs;
+        write!(f, "HIGH apart from the next address less one ({}): MEMORY {memory:?}, END {end:?}", HIGHS.join(", "))
     }
 }

@@ -239,6 +239,16 @@ impl<'a> Player<'a> {
             return Err(format!("answered {answer:?}, the Rust linker {expected:?}"));
         }
         noted?;
+        self.check_paper(step, answer)?;
+        if bytes != step.call.bytes() {
+            return Err("wrote into the bytes that were lent for reading".into());
+        }
+        self.compare_memory(&call)?;
+        self.check_promises(&call, answer, &before, work.as_deref(), &out)
+    }
+
+    /// What the paper says of this very step, where it is given.
+    fn check_paper(&self, step: &Step, answer: Answer) -> Result<(), String> {
         let (number, line, _) = answer.parts();
         if step.expected.is_some_and(|expected| expected != (number, line)) {
             return Err(format!("both answered {number} at line {line}, the paper says {:?}", step.expected));
@@ -248,11 +258,23 @@ impl<'a> Player<'a> {
                 return Err(format!("both answered {} rounds, the paper says {rounds}", load.rounds));
             }
         }
-        if bytes != step.call.bytes() {
-            return Err("wrote into the bytes that were lent for reading".into());
+        let high = self.high(answer);
+        if step.high.is_some() && high != step.high {
+            return Err(format!("HIGH is {high:?}, the paper says {:?}", step.high));
         }
-        self.compare_memory(&call)?;
-        self.check_promises(&call, answer, &before, work.as_deref(), &out)
+        Ok(())
+    }
+
+    /// HIGH as the subject tells it: in MEMORY's answer, or in the record that ends the image.
+    fn high(&self, answer: Answer) -> Option<u64> {
+        match answer {
+            Answer::Memory(MemoryAnswer { number: 0, high, .. }) => Some(high),
+            Answer::End(EndAnswer { number: 0, length, .. }) => {
+                let &[_, high, low, _, _] = self.subject.out.view().get(..length as usize)?.last_chunk()?;
+                Some(u16::from_be_bytes([high, low]).into())
+            }
+            _ => None,
+        }
     }
 
     /// Works out the arguments, and fills work memory and output with anything.
@@ -309,6 +331,9 @@ impl<'a> Player<'a> {
                 self.coverage.note_past_end(column);
             }
             _ => {}
+        }
+        if let (Some(high), Some(&next)) = (self.high(answer), self.subject.state.view().get(NEXT)) {
+            self.coverage.note_high(column, high, next);
         }
         if !column.can_give(number) {
             return Err(format!("{number} is no answer of this call"));

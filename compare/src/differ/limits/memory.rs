@@ -1,6 +1,6 @@
 //! What is lent: lengths, indices, marks and soundness.
 
-use super::super::case::{Index, Origin, Room};
+use super::super::case::{Index, Origin};
 use super::*;
 use crate::memory::*;
 use crate::name::Name;

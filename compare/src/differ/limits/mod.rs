@@ -6,7 +6,7 @@ mod paper;
 mod placing;
 mod reading;
 
-use super::case::{Call, Case, Step};
+use super::case::{Call, Case, Room, Step};
 use crate::memory::fresh;
 
 /// Every case.
@@ -61,6 +61,16 @@ fn force(name: &str, number: u64) -> Step {
 
 fn base(address: u64, number: u64) -> Step {
     call(Call::Base(address), number, 0)
+}
+
+/// MEMORY with this HIGH.
+fn memory(high: u64) -> Step {
+    Step { high: Some(high), ..call(Call::Memory, 0, 0) }
+}
+
+/// END with this HIGH in its record.
+fn end(high: u64) -> Step {
+    Step { high: Some(high), ..call(Call::End(Room::FromImage(0)), 0, 0) }
 }
 
 /// A case from the fresh state.

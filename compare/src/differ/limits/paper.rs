@@ -1,7 +1,7 @@
 //! Document 01's runs P1 to P10, and its slips that lie close at hand. What the states and images come to is held to the
 //! paper by tests/document.rs, for the Rust linker that they are compared with here.
 
-use super::super::case::{Index, Room};
+use super::super::case::Index;
 use super::*;
 
 const MAIN: &str = "\
@@ -71,7 +71,7 @@ pub fn all() -> Vec<Case> {
         ("P9", vec![load(section(&low.repeat(2)), 13, 1)]),
         ("P9 once", vec![searched(section(&low), 1)]),
         ("P10", vec![load(fpb, 6, 7)]),
-        ("slip: a count of 10", vec![load(module("A", &code(0, 8)), 0, 0), call(Call::Memory, 0, 0)]),
+        ("slip: a count of 10", vec![load(module("A", &code(0, 8)), 0, 0), memory(7)]),
         ("slip: absolute entries", vec![base(64, 0), load(module("A", "4 2 ***ENTRY\nA 5 0\nB 5 1 0\n"), 0, 0)]),
         ("slip: half-walked", vec![load(module("A", &entries(&names(0, 1))).repeat(2), 13, 7)]),
     ];

@@ -4,7 +4,7 @@ use super::super::case::Index;
 use super::*;
 
 pub fn all() -> Vec<Case> {
-    [room_and_values(), overlaps(), symbols(), duplicates(), searches()].concat()
+    [room_and_values(), highs(), overlaps(), symbols(), duplicates(), searches()].concat()
 }
 
 fn room_and_values() -> Vec<Case> {
@@ -12,13 +12,13 @@ fn room_and_values() -> Vec<Case> {
     let entry = |value: u64| module("A", &format!("4 1 ***ENTRY\nA {value:o} 1 0\n"));
     let arg = |arg: usize| module("A", &format!("{}0 1 0 ***CODE\n* 0 0 0 0 0 5 {arg:o}\n", externals(&names(0, 64))));
     vec![
-        case("4096 words", [load(words(0, 4096), 0, 0), load(words(0, 0), 0, 0), call(Call::Memory, 0, 0)]),
+        case("4096 words", [load(words(0, 4096), 0, 0), load(words(0, 0), 0, 0), memory(4095)]),
         case("4097 words", [load(words(0, 4097), 9, 1)]),
         case("the last address", [load(words(4095, 1), 0, 0)]),
         case("an offset of 4096", [load(words(4096, 1), 9, 1)]),
         case("an offset of 65535", [load(words(65_535, 1), 9, 1)]),
         case("offset and count over 65535", [load(words(65_535, 3), 9, 1)]),
-        case("no word at a far offset", [load(words(65_535, 0), 0, 0), call(Call::Memory, 0, 0)]),
+        case("no word at a far offset", [load(words(65_535, 0), 0, 0), memory(65_535)]),
         case("BASE", [base(4095, 0), base(4096, 12), base(1 << 32, 12), base(u64::MAX, 12), load(words(0, 1), 0, 0)]),
         case("two words at BASE 4095", [base(4095, 0), load(words(0, 2), 9, 1)]),
         case("a relocated 65535", [base(4095, 0), load(entry(65_535 - 4095), 0, 0)]),
@@ -42,6 +42,27 @@ fn room_and_values() -> Vec<Case> {
         case("external 65 of 64", [load(arg(65), 11, 1)]),
         case("external 0", [load(arg(0), 11, 1)]),
         case("external 65535", [load(arg(65_535), 11, 1)]),
+    ]
+}
+
+/// HIGH after each step, wherever the next address goes; END, which freezes, comes last.
+fn highs() -> Vec<Case> {
+    let words = |count| load(module("A", &code(0, count)), 0, 0);
+    let none = 65_535;
+    vec![
+        case(
+            "HIGH after a step back",
+            [base(128, 0), words(3), memory(130), base(0, 0), memory(130), words(1), memory(130), end(130)],
+        ),
+        case(
+            "HIGH where no word is placed",
+            [memory(none), base(4095, 0), memory(none), words(0), memory(none), force("A", 0), end(none)],
+        ),
+        case("HIGH of a word at 0", [words(1), memory(0), base(4095, 0), memory(0), words(0), memory(0), end(0)]),
+        case("HIGH of a word at 4095", [base(4095, 0), words(1), memory(4095), base(0, 0), memory(4095), end(4095)]),
+        case("HIGH of a reference at 4095", [load(both_ends(), 0, 0), base(0, 0), memory(4095), end(4095)]),
+        case("HIGH behind a refused load", [words(3), base(4095, 0), load(module("B", &code(0, 2)), 9, 1), memory(2)]),
+        case("HIGH behind a RESET", [words(3), call(Call::Reset, 0, 0), memory(none), end(none)]),
     ]
 }
 
