@@ -41,7 +41,8 @@ pub const ROWS: &[Row] = &[
     Row { label: "LOAD refused at its last line (6)", input: refused_by_reading },
     Row { label: "LOAD refused at its last module (13)", input: refused_by_walk },
     Row { label: "END", input: end },
-    Row { label: "MEMORY (soundness alone)", input: memory },
+    Row { label: "MEMORY of a full state", input: memory },
+    Row { label: "MEMORY with no word placed", input: memory_without_words },
 ];
 
 /// One routine with two entries, four externals and 64 words.
@@ -146,6 +147,12 @@ fn end(divisor: usize) -> Input {
 fn memory(divisor: usize) -> Input {
     let size = format!("{} symbols, {} words", 256 / divisor, 4096 / divisor);
     Input { size, state: full_state(divisor), job: Job::Memory, expected: 0 }
+}
+
+/// HIGH is searched for at every address.
+fn memory_without_words(divisor: usize) -> Input {
+    let symbols = 256 / divisor;
+    Input { size: format!("{symbols} symbols"), state: table_of(symbols), job: Job::Memory, expected: 0 }
 }
 
 /// Symbols all over the table, every second one defined, and words that refer to each of them.
