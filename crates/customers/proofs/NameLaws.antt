@@ -2,25 +2,24 @@
 use Prim.Native.Nat.{ℕ, _≤_, _<_}
 use native.Mathlib.Omega.{arith}
 use mathlib.Core.Bool.{true, false}
-use mathlib.Core.List.{List, [], _∷_}
+use mathlib.Core.List.{List}
 use mathlib.Core.Path.{_≡_, refl, sym, ap, _∙_}
 use Rattle.rules.specs.Text as Text
 use Rattle.rules.specs.Text.{isName, packName}
 use Rattle.rules.specs.State as State
-use Rattle.rules.specs.State.{State, state, unplaced, fresh, noWords, positionOf, undefinedOnly, highestFrom, highestWhere, highest, sound}
+use Rattle.rules.specs.State.{State, state, fresh, noWords, positionOf, undefinedOnly, highestFrom, highestWhere, highest, sound}
 use Rattle.rules.specs.Placing as Placing
 use Rattle.rules.specs.Placing.{mention}
-use Rattle.rules.specs.Calls.{Lent, holding, Left, now, Outcome, stopped, done, callAnswer, withSymbols, load, reset, force, base, symbols, undefined, undefinedAt}
-use Rattle.rules.specs.History.{Call, forcing, basing, workFits, leftBy, stateAfter, called}
+use Rattle.rules.specs.Calls.{Lent, holding, Outcome, stopped, done, withSymbols, load, reset, force, base, symbols, undefined, undefinedAt}
+use Rattle.rules.specs.History.{forcing, basing, workFits, leftBy, stateAfter, called}
 use Rattle.rules.specs.declared.answer.CallAnswer.{CallAnswer}
 use Rattle.rules.specs.declared.answer.LoadAnswer.{LoadAnswer}
 use Rattle.rules.specs.declared.answer.SymbolAnswer.{SymbolAnswer}
 use Rattle.rules.specs.declared.answer.UndefinedAnswer.{UndefinedAnswer}
 use Rattle.rules.proofs.OrderLaws.{force-no-name, force-new, base-over, base-moves}
 use Rattle.rules.proofs.SoundCalls.{called-sound, fresh-is-sound}
-use Rattle.state.specs.Layout.{lent, cellsAfter}
+use Rattle.state.specs.Layout.{lent}
 use Rattle.state.specs.Promise.{Called, LoadCalled}
-use Rattle.state.proofs.LentLaws.{lent-encode}
 use Rattle.customers.specs.Words.{forcedOnly, Forced, Moved}
 use Rattle.customers.proofs.LentBefore.{answer-is, holds-then}
 use Rattle.customers.proofs.FreshLaws.{reset-holds}

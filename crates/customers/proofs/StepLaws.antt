@@ -1,9 +1,9 @@
 -- MEMORY before and after FORCE, BASE and a load behind a BASE.
 use Prim.Native.Nat.{ℕ}
-use mathlib.Core.List.{List, [], _∷_}
-use mathlib.Core.Path.{_≡_, refl, sym, ap, ap₂, _∙_}
+use mathlib.Core.List.{List}
+use mathlib.Core.Path.{_≡_, refl, sym, _∙_}
 use Rattle.rules.specs.Calls.{force, base, load, memory}
-use Rattle.rules.specs.History.{Call, forcing, basing, loading, ofCall, ofLoad, workFits}
+use Rattle.rules.specs.History.{basing, loading, ofCall, workFits}
 use Rattle.rules.specs.declared.answer.CallAnswer.{CallAnswer}
 use Rattle.rules.specs.declared.answer.LoadAnswer.{LoadAnswer}
 use Rattle.rules.specs.declared.answer.MemoryAnswer.{MemoryAnswer}

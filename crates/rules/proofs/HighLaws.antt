@@ -3,22 +3,21 @@
 use Prim.Native.Nat.{ℕ, zero, suc, _+_, _≤_, _<_}
 use native.Mathlib.Nat.{not-suc-le-zero, le-of-suc-le-suc}
 use native.Mathlib.Omega.{arith}
-use mathlib.Core.Bool.{Bool, true, false, cond, _&&_}
+use mathlib.Core.Bool.{Bool, true, false, cond}
 use mathlib.Core.List.{List, [], _∷_, _++_}
 use mathlib.Core.Logic.{_≢_}
 use mathlib.Core.Path.{_≡_, refl, sym, ap, _∙_}
 use lib.ListN.{length, getD, set, List·getD-eq-default}
 use lib.Dec.{eqb, ltb}
 use borrow.Author.Tests.{ltb-true, ltb-false}
-use Rattle.rules.specs.Limits.{programWords, noAddress}
+use Rattle.rules.specs.Limits.{noAddress}
 use Rattle.rules.specs.Reading.{Module, Item, free, section, itemsOf}
-use Rattle.rules.specs.State.{Symbol, Word, unplaced, State, marked, broken, isPlaced, highestFrom, highestWhere, high, undefinedOnly, sound}
-use Rattle.rules.specs.Placing.{Code, linked, putAll, placingFault, placed, twice}
+use Rattle.rules.specs.State.{Symbol, Word, unplaced, State, isPlaced, highestFrom, highestWhere, high, undefinedOnly, sound}
+use Rattle.rules.specs.Placing.{Code, linked, putAll, placingFault, placed}
 use Rattle.rules.specs.Search.{ModuleSet}
-use Rattle.rules.specs.Load.{Walk, walking, accepted, tryPlace, place, takes, searched, sectionNames, testSection, Progress, progress, walkItem, walkItems}
+use Rattle.rules.specs.Load.{Walk, walking, accepted, tryPlace, place, takes, searched, testSection, Progress, progress, walkItem, walkItems}
 use Rattle.rules.specs.Image.{two, recordsFrom, endRecord, imageOf}
 use Rattle.rules.specs.Calls.{holding, load, memory}
-use Rattle.rules.specs.declared.answer.MemoryAnswer.{MemoryAnswer}
 use Rattle.rules.specs.History.{Call, loading, forcing, basing, resetting, askingHigh, listing, listingUndefined, ending, workFits, leftBy, stateAfter, called, calledAll}
 use Rattle.rules.proofs.TestLaws.{Every}
 use Rattle.rules.proofs.BoolLaws.{cond-cases, never}

@@ -7,6 +7,7 @@ pub mod SymbolLaws
 pub mod JoinLaws
 pub mod TableLaws
 pub mod WordLaws
+pub mod HighestLaws
 pub mod FreshLaws
 pub mod LentLaws
 pub mod PromiseLaws

@@ -1,6 +1,6 @@
 use Prim.Native.Nat.{_+_, _-_, _≤_}
 use native.Mathlib.Omega.{arith}
-use Rattle.state.proofs.WordLaws.{tag-small, Adding, adding-start, adding-step, adding-end}
+use Rattle.state.proofs.HighestLaws.{tag-small, Adding, adding-start, adding-step, adding-end}
 use Rattle.state.proofs.words.eight_tags.Statement.{statement}
 use Rattle.state.proofs.words.eight_tags.Tie as tie
 

@@ -1,6 +1,6 @@
 use native.Mathlib.Omega.{arith}
 use Rattle.state.specs.Words.{HighBelow}
-use Rattle.state.proofs.WordLaws.{high-here, high-lower, high-none}
+use Rattle.state.proofs.HighestLaws.{high-here, high-lower, high-none}
 use Rattle.state.proofs.words.high.Statement.{statement}
 use Rattle.state.proofs.words.high.Tie as tie
 

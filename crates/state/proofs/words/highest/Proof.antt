@@ -1,4 +1,4 @@
-use Rattle.state.proofs.WordLaws.{highest-all, highest-here, highest-lower, highest-none, refers-yes, refers-no}
+use Rattle.state.proofs.HighestLaws.{highest-all, highest-here, highest-lower, highest-none, refers-yes, refers-no}
 use Rattle.state.specs.Layout.{wordsBelow, decode}
 use Rattle.rules.specs.State.{refersTo, highest}
 use native.Mathlib.Omega.{arith}

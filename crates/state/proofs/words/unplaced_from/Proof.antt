@@ -1,6 +1,6 @@
 use native.Mathlib.Omega.{arith}
 use Rattle.state.specs.Words.{HighBelow}
-use Rattle.state.proofs.WordLaws.{below-start, below-eight}
+use Rattle.state.proofs.HighestLaws.{below-start, below-eight}
 use Rattle.state.proofs.words.unplaced_from.Statement.{statement}
 use Rattle.state.proofs.words.unplaced_from.Tie as tie
 
