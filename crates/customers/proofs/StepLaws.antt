@@ -9,10 +9,9 @@ use Rattle.rules.specs.declared.answer.LoadAnswer.{LoadAnswer}
 use Rattle.rules.specs.declared.answer.MemoryAnswer.{MemoryAnswer}
 use Rattle.state.specs.Layout.{lent}
 use Rattle.state.specs.Promise.{Called, LoadCalled}
-use Rattle.state.specs.Sequence.{stop, step}
+use Rattle.state.specs.Sequence.{stop, step, NotLower}
 use Rattle.state.proofs.SequenceLaws.{force-replied, base-replied, load-replied}
 use Rattle.state.proofs.StepBack.{force-tells-same, base-tells-same, no-reset, step-back}
-use Rattle.customers.specs.Words.{NotLower}
 
 module _ (cells after : List ℕ) (q r : MemoryAnswer) (first : q ≡ memory (lent cells)) (a : CallAnswer) where
   pub force-same : (name : List ℕ) → Called (force (lent cells) name) cells a after → r ≡ memory (lent after) → r ≡ q
@@ -25,8 +24,7 @@ module _ (cells after : List ℕ) (q r : MemoryAnswer) (first : q ≡ memory (le
       (address : ℕ) (work file : List ℕ) (b : LoadAnswer) (last used : List ℕ) → Called (base (lent cells) address) cells a after
       → LoadCalled (load (lent after) (workFits work) file) after work b last used → r ≡ memory (lent last) → NotLower q r
   stepped-back address work file b last used c l second =
-      let still =
-      step-back
+      rw (first, second)
+      (step-back
       (step (base-replied cells after address a c) (step (load-replied after last work file b used l) stop))
-      (no-reset (basing address) refl, (no-reset (loading work file) refl, tt)) in
-      rw (first, second) (record { as-told = still .0; high = still .1 })
+      (no-reset (basing address) refl, (no-reset (loading work file) refl, tt)))

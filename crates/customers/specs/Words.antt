@@ -17,7 +17,6 @@ use Rattle.rules.specs.History.{resetting, loading, ending, ofCall, ofLoad, ofE
 use Rattle.rules.specs.declared.reading.Reading.the-variants.{Stopped}
 use Rattle.rules.specs.declared.answer.LoadAnswer.{LoadAnswer}
 use Rattle.rules.specs.declared.answer.CallAnswer.{CallAnswer}
-use Rattle.rules.specs.declared.answer.MemoryAnswer.{MemoryAnswer}
 use Rattle.rules.specs.declared.answer.SymbolAnswer.{SymbolAnswer}
 use Rattle.rules.specs.declared.answer.UndefinedAnswer.{UndefinedAnswer}
 use Rattle.rules.specs.declared.answer.EndAnswer.{EndAnswer}
@@ -125,13 +124,6 @@ pub record Moved (before : List ℕ) (address : ℕ) (file : List ℕ) (index : 
   pub moves : length before ≡ size → address ≤ 4095 → load .number ≡ 0 →
       listed ≡ symbolAt (walkFrom (state [] noWords address unmarked) (itemsOf file) .walk .state .symbols) index
   pub refused : length before ≡ size → 4095 < address → r ≡ callAnswer 12
-
--- ---- MEMORY, before and after other calls
-
--- the same number, and once a word is placed an address that is not lower
-pub record NotLower (before after : MemoryAnswer) : Type 0 where
-  pub as-told : after .number ≡ before .number
-  pub high : before .high ≢ 65535 → (before .high ≤ after .high) × (after .high ≢ 65535)
 
 -- ---- END
 

@@ -5,7 +5,7 @@ use linker::lnk100_load;
 use linker::lnk100_memory;
 use rules::answer::MemoryAnswer;
 ghost use mathlib.Core.Path.{_≡_};
-ghost use Rattle.customers.specs.Words.{NotLower};
+ghost use Rattle.state.specs.Sequence.{NotLower};
 
 // MEMORY, asked twice.
 pub struct AskedTwice {

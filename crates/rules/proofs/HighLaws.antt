@@ -197,11 +197,11 @@ placed-stays s (ending out) other = λ a h. rw (end-words s out) h
 
 -- ---- so HIGH, once a word is placed, stays an address and never sinks
 
-abbrev pub NotLower : ℕ → ℕ → Type 0
-NotLower h k = h ≢ noAddress → (h ≤ k) × (k ≢ noAddress)
+abbrev pub AtLeast : ℕ → ℕ → Type 0
+AtLeast h k = h ≢ noAddress → (h ≤ k) × (k ≢ noAddress)
 
 -- of words below 65,535
-rises : (ws vs : List Word) → length vs ≤ noAddress → ((a : ℕ) → isPlaced (getD ws a unplaced) ≡ true → isPlaced (getD vs a unplaced) ≡ true) → NotLower (high ws) (high vs)
+rises : (ws vs : List Word) → length vs ≤ noAddress → ((a : ℕ) → isPlaced (getD ws a unplaced) ≡ true → isPlaced (getD vs a unplaced) ≡ true) → AtLeast (high ws) (high vs)
 rises ws vs few stay some = go (high-is ws) (high-is vs)
   where
     inside : (a : ℕ) → isPlaced (getD vs a unplaced) ≡ true → a < length vs
@@ -220,14 +220,14 @@ rises ws vs few stay some = go (high-is ws) (high-is vs)
         not-below true f = never (stay (high ws) s) (above (high ws) (ltb-true (high vs) (high ws) f))
         not-below false f = ltb-false (high vs) (high ws) f
 
-pub high-not-lower : (s : State) → sound s ≡ true → (c : Call) → c ≢ resetting → NotLower (told s) (told (called s c))
+pub high-not-lower : (s : State) → sound s ≡ true → (c : Call) → c ≢ resetting → AtLeast (told s) (told (called s c))
 unfolding memory
 high-not-lower s h c other =
     let after = facts (called s c) (called-sound s c h) in
     rises (s .words) (called s c .words) (omega (arith, after .size)) (placed-stays s c other)
 
 -- after any calls in a row
-pub high-until-reset : (s : State) → sound s ≡ true → (cs : List Call) → Every (λ c. c ≢ resetting) cs → NotLower (told s) (told (calledAll s cs))
+pub high-until-reset : (s : State) → sound s ≡ true → (cs : List Call) → Every (λ c. c ≢ resetting) cs → AtLeast (told s) (told (calledAll s cs))
 unfolding calledAll
 high-until-reset s h [] others some = (omega arith, some)
 high-until-reset s h (c ∷ cs) others some =

@@ -1,6 +1,6 @@
 -- Document 02, 1/14, on memory: MEMORY tells the same before and after FORCE, BASE and END, and whatever calls come, until a RESET it
 -- tells no lower address. So no step back of the base can cut an image off.
-use Prim.Native.Nat.{ℕ, _≤_}
+use Prim.Native.Nat.{ℕ}
 use native.Mathlib.Omega.{arith}
 use mathlib.Core.Bool.{Bool, true, false}
 use mathlib.Core.List.{List}
@@ -8,13 +8,12 @@ use mathlib.Core.Logic.{_≢_}
 use mathlib.Core.Path.{_≡_, refl, sym, ap, subst, _∙_}
 use Rattle.rules.specs.State.{State}
 use Rattle.rules.specs.Calls.{Lent, wrongLength, damaged, holding, asBefore, loadLent, load, force, base, memory, end}
-use Rattle.rules.specs.declared.answer.MemoryAnswer.{MemoryAnswer}
 use Rattle.rules.specs.History.{Call, loading, forcing, basing, resetting, askingHigh, listing, listingUndefined, ending, Reply, workFits, leftBy, called, calledAll}
 use Rattle.rules.proofs.TestLaws.{Every}
 use Rattle.rules.proofs.BoolLaws.{never}
-use Rattle.rules.proofs.HighLaws.{NotLower, force-keeps-high, base-keeps-high, end-keeps-high, high-until-reset}
+use Rattle.rules.proofs.HighLaws.{force-keeps-high, base-keeps-high, end-keeps-high, high-until-reset}
 use Rattle.state.specs.Layout.{lent, cellsAfter}
-use Rattle.state.specs.Sequence.{cellsCalled, Replied, Run, stop, step}
+use Rattle.state.specs.Sequence.{cellsCalled, Replied, Run, stop, step, NotLower}
 use Rattle.state.proofs.LentLaws.{held-sound}
 use Rattle.state.proofs.SequenceLaws.{holds-called, holds-run}
 
@@ -92,20 +91,16 @@ done-both : (s t : State) → memory (holding t) .number ≡ memory (holding s) 
 unfolding memory
 done-both s t = refl
 
--- MEMORY is answered as before, and by no lower address
-abbrev pub StillAbove : MemoryAnswer → MemoryAnswer → Type 0
-StillAbove q r = (r .number ≡ q .number) × NotLower (q .high) (r .high)
-
 -- whatever calls come, until one is RESET
 pub step-back :
     {cells last : List ℕ} {cs : List Call} {rs : List Reply} → Run cells cs rs last → Every (λ c. c ≢ resetting) cs
-    → StillAbove (memory (lent cells)) (memory (lent last))
+    → NotLower (memory (lent cells)) (memory (lent last))
 step-back {cells} {last} {cs} run others = go (lent cells) refl
   where
-    unchanged : last ≡ cells → StillAbove (memory (lent cells)) (memory (lent last))
-    unchanged e = rw e (refl, λ some. (omega arith, some))
+    unchanged : last ≡ cells → NotLower (memory (lent cells)) (memory (lent last))
+    unchanged e = rw e (record { as-told = refl; high = λ some. (omega arith, some) })
 
-    go : (m : Lent) → lent cells ≡ m → StillAbove (memory (lent cells)) (memory (lent last))
+    go : (m : Lent) → lent cells ≡ m → NotLower (memory (lent cells)) (memory (lent last))
     go wrongLength e = unchanged (unheld-run run (subst Unheld (sym e) short) others)
     go damaged e = unchanged (unheld-run run (subst Unheld (sym e) spoilt) others)
-    go (holding s) e = rw (e, holds-run run s e) (done-both s (calledAll s cs), high-until-reset s (held-sound cells s e) cs others)
+    go (holding s) e = rw (e, holds-run run s e) (record { as-told = done-both s (calledAll s cs); high = high-until-reset s (held-sound cells s e) cs others })

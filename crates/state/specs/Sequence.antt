@@ -1,8 +1,11 @@
 -- Calls in a row on one state memory, each on what the one before it left there.
-use Prim.Native.Nat.{ℕ}
+use Prim.Native.Nat.{ℕ, _≤_}
 use mathlib.Core.Bool.{true}
 use mathlib.Core.List.{List, [], _∷_}
+use mathlib.Core.Logic.{_≢_}
 use mathlib.Core.Path.{_≡_}
+use Rattle.rules.specs.Limits.{noAddress}
+use Rattle.rules.specs.declared.answer.MemoryAnswer.{MemoryAnswer}
 use Rattle.rules.specs.History.{Call, loading, Reply, workFits, replyTo, leftBy}
 use Rattle.state.specs.Layout.{lent, cellsAfter}
 
@@ -29,3 +32,8 @@ pub data Alike : List Call → List Call → Type 0 where
   loads :
       {work other file : List ℕ} {cs ds : List Call} → workFits work ≡ true → workFits other ≡ true → Alike cs ds
       → Alike (loading work file ∷ cs) (loading other file ∷ ds)
+
+-- MEMORY before and after other calls: the same number, and once a word is placed an address that is not lower
+pub record NotLower (before after : MemoryAnswer) : Type 0 where
+  pub as-told : after .number ≡ before .number
+  pub high : before .high ≢ noAddress → (before .high ≤ after .high) × (after .high ≢ noAddress)

@@ -85,8 +85,8 @@ pub fn highest(state: &[u64], symbol: usize) -> usize
     NO_ADDRESS
 }
 
-// The tags at eight addresses, added: 0 if no word is placed there, so that HIGH is below them if it is not above. One test for eight
-// words makes the search of an empty state three times as fast.
+// The tags at eight addresses, added: 0 if no word is placed there, so that HIGH is below them if it is not above. One test serves
+// for eight words.
 fn eight_tags(state: &[u64], address: usize) -> u64
     requires { ⌜ Good (now state) ⌝ }
     requires { ⌜ address + 8 ≤ programWords ⌝ }
@@ -101,7 +101,7 @@ fn eight_tags(state: &[u64], address: usize) -> u64
     sum
 }
 
-// An address from which on no word is placed.
+// An address from which on no word is placed. How low it is matters for speed alone: `high` looks at each word below it.
 fn unplaced_from(state: &[u64]) -> usize
     requires { ⌜ Good (now state) ⌝ }
     ensures { λ r. ⌜ HighBelow (now (state .entry)) r ⌝ }
