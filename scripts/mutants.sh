@@ -2,7 +2,8 @@
 # Plants one error at a time into a copy of the Rust linker, links the copy in place of the verified library, and looks
 # whether differ notices. So it tries the harness and the C interface, and needs no verified library. A quarter of an hour.
 #
-#   scripts/mutants.sh [WORD]    only mutants whose label has the word
+#   scripts/mutants.sh [WORD]                only mutants whose label has the word
+#   scripts/mutants.sh WORD --no-limits      the same by the random cases alone; any arguments of differ
 set -eu
 cd "$(dirname "$0")/../compare"
 here=$PWD
@@ -45,7 +46,7 @@ mutant() { # label, file under src/, sed expression
   elif ! build_library; then
     echo "NO BUILD     $1"
     missed=$((missed + 1))
-  elif said=$(differ 20000 1); then
+  elif said=$(differ 20000 1 "${more[@]}"); then
     echo "NOT NOTICED  $1"
     missed=$((missed + 1))
   else
@@ -54,6 +55,7 @@ mutant() { # label, file under src/, sed expression
 }
 
 word=${1:-}
+more=("${@:2}")
 fresh_copy
 build_library
 if ! said=$(differ 500 1); then
@@ -126,6 +128,23 @@ mutant "mark 3 is sound" memory.rs 's/cells\[MARK\] > FROZEN/cells[MARK] > FROZE
 mutant "values above sixteen bits are sound" memory.rs 's/(DEFINED..2 \* DEFINED)/(DEFINED..=2 * DEFINED)/'
 mutant "output cleared behind the image" linker.rs 's/let image = out.get_mut(..length).ok_or(Reason::Out)?;/out.get(..length).ok_or(Reason::Out)?; out.fill(0); let image = \&mut out[..length];/'
 mutant "too long breaks" answer.rs 's/Reason::Line as u64..=/Reason::TooLong as u64..=/'
+mutant "lookup: the table's last symbol is not found" linker.rs '/pub(crate) fn mention/a\        if self.symbols.last().is_some_and(|last| last.name == name) { self.index.remove(\&name); }'
+mutant "lookup: the table's first symbol is not found" linker.rs '/pub(crate) fn mention/a\        if self.symbols.first().is_some_and(|first| first.name == name) { self.index.remove(\&name); }'
+mutant "lookup: the lowest name of a long table is not found" linker.rs '/pub(crate) fn mention/a\        if self.symbols.len() > 200 \&\& self.symbols.iter().map(|symbol| symbol.name).min() == Some(name) { self.index.remove(\&name); }'
+mutant "lookup: the highest name of a full table is not found" linker.rs '/pub(crate) fn mention/a\        if self.symbols.len() == 256 \&\& self.symbols.iter().map(|symbol| symbol.name).max() == Some(name) { self.index.remove(\&name); }'
+mutant "lookup: a name is found at its neighbour's position" linker.rs 's/map(|&name| self.table.mention(name))/map(|\&name| { let at = self.table.mention(name); let next = self.table.symbols.iter().enumerate().filter(|next| next.1.name > name).min_by_key(|next| next.1.name); next.filter(|_| at >= 200).map_or(at, |next| next.0) })/'
+mutant "lookup: a missing name is found at a neighbour's position" linker.rs 's/map(|&name| self.table.mention(name))/map(|\&name| match self.table.symbols.iter().position(|symbol| symbol.name > name) { Some(at) if self.table.symbols.len() > 200 \&\& self.table.find(name).is_none() => at, _ => self.table.mention(name) })/'
+mutant "lookup: a joined external is not found again in its load" linker.rs 's/map(|&name| self.table.mention(name))/map(|\&name| { let count = self.table.symbols.len(); let at = self.table.mention(name); if at >= count.max(200) { self.table.index.remove(\&name); } at })/'
+mutant "lookup: a joined entry is not found again in its load" linker.rs 's/let symbol = self.table.mention(entry.name);/let count = self.table.symbols.len(); let symbol = self.table.mention(entry.name); if symbol >= count.max(200) { self.table.index.remove(\&entry.name); }/'
+mutant "lookup: the sixth character is not compared" linker.rs '/pub(crate) fn mention/a\        if let Some(at) = self.symbols.iter().position(|symbol| symbol.name.packed() >> 8 == name.packed() >> 8) { return at; }'
+mutant "lookup: a 0 behind a name is not compared" linker.rs '/pub(crate) fn mention/a\        let front = |name: Name| name.to_string().trim_end_matches("0").to_string();\n        if let Some(at) = self.symbols.iter().position(|symbol| self.symbols.len() > 200 \&\& front(symbol.name) == front(name)) { return at; }'
+mutant "lookup: FORCE does not find the lowest name of a full table" linker.rs 's/if self.table.find(name).is_none() {/if self.table.find(name).is_none() || self.table.symbols.len() == 256 \&\& self.table.symbols.iter().all(|symbol| symbol.name >= name) {/'
+mutant "lookup: a module is not taken for the highest name of a long table" linker.rs 's/queue.push(1, place);/if self.table.symbols.len() <= 200 || section.modules[place].entries.iter().any(|entry| self.table.is_undefined(entry.name) \&\& self.table.symbols.iter().any(|symbol| symbol.name > entry.name)) { & }/'
+mutant "lookup: 14 as soon as the 257th entry joins" linker.rs '/pub fn place/,/^    }/s/for entry in &module.entries {/& if self.table.symbols.len() > MOST_SYMBOLS { return Err(fault(Reason::Table)); }/'
+mutant "lookup: an entry that shares its remainder is not found" linker.rs '/^fn providers/,/^}/s/for entry in &module.entries {/& if providers.keys().any(|name: \&Name| *name != entry.name \&\& name.packed() % 2039 == entry.name.packed() % 2039) { continue; }/'
+mutant "lookup: the 65th entry of one remainder is not found" linker.rs '/^fn providers/,/^}/s/for entry in &module.entries {/& if providers.keys().filter(|name: \&\&Name| **name != entry.name \&\& name.packed() % 2039 == entry.name.packed() % 2039).count() >= 64 { continue; }/'
+mutant "lookup: the 65th entry of one remainder is a duplicate" linker.rs '/^fn providers/,/^}/s/for entry in &module.entries {/& if providers.keys().filter(|name: \&\&Name| name.packed() % 2039 == entry.name.packed() % 2039).count() >= 64 { return Err(Refusal::at(Reason::Duplicate, section.line)); }/'
+mutant "lookup: a duplicate among 64 of one remainder is not noticed" linker.rs '/^fn providers/,/^}/s/if providers.insert(entry.name, place).is_some() {/if providers.insert(entry.name, place).is_some() \&\& providers.keys().filter(|name: \&\&Name| name.packed() % 2039 == entry.name.packed() % 2039).count() < 64 {/'
 
 echo "$tried mutants, $missed not noticed"
 [ "$missed" -eq 0 ]

@@ -27,6 +27,25 @@ fn the_linker_agrees_with_itself() {
             assert!(summary.limits.coverage.count(column, number) > 0, "{column:?} was never answered {number}");
         }
     }
+    // They have looked for names at every place of a long table too, and in sections of one remainder.
+    assert_eq!(summary.limits.coverage.lookups.missing(), Vec::<String>::new());
+}
+
+/// A run that did not look for names at every place says which it missed.
+#[test]
+fn missing_lookups_are_told() {
+    let summary = run(&Lent, &options(0, false)).unwrap_or_else(|found| panic!("{found:?}"));
+    let missing = summary.random.coverage.missing();
+    for what in [
+        "external: lowest of a long table",
+        "entry, 13: highest of a long table",
+        "entry, 14: between of a long table",
+        "a load from a table of so many symbols: 256",
+        "a section with 64 and more of one remainder: wanted",
+    ] {
+        assert!(missing.iter().any(|each| each == what), "{what}");
+    }
+    assert!(!missing.iter().any(|each| each == "entry, 13: below of a long table"));
 }
 
 #[test]

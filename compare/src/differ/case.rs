@@ -4,8 +4,10 @@ use std::fmt;
 
 use super::author::Author;
 use super::damage::{damaged, odd_lines};
+use super::long;
 use super::rng::Rng;
 use super::states;
+use crate::calls::{SymbolAnswer, UndefinedAnswer};
 use crate::memory::{fresh, STATE_CELLS, WORK_CELLS};
 
 #[derive(Clone, Debug)]
@@ -27,11 +29,14 @@ pub struct Step {
     pub rounds: Option<u64>,
     /// The same of HIGH, in MEMORY's answer or in the END record.
     pub high: Option<u64>,
+    /// The same of the whole answer of SYMBOLS, and of UNDEFINED.
+    pub symbol: Option<SymbolAnswer>,
+    pub undefined: Option<UndefinedAnswer>,
 }
 
 impl From<Call> for Step {
     fn from(call: Call) -> Step {
-        Step { call, state_cells: STATE_CELLS, expected: None, rounds: None, high: None }
+        Step { call, state_cells: STATE_CELLS, expected: None, rounds: None, high: None, symbol: None, undefined: None }
     }
 }
 
@@ -113,6 +118,11 @@ impl fmt::Debug for Call {
 
 /// A case drawn at random.
 pub fn random(rng: &mut Rng) -> Case {
+    match rng.below(100) {
+        0..10 => return long::table(rng),
+        10..13 => return long::section(rng),
+        _ => {}
+    }
     let mut author = Author::new(rng);
     let (label, state) = match rng.below(100) {
         0..60 => ("from fresh", fresh()),

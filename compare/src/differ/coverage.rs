@@ -1,9 +1,11 @@
-//! What a run reached: how often each call gave each answer, how many rounds the accepted loads had, and where HIGH stood.
+//! What a run reached: how often each call gave each answer, how many rounds the accepted loads had, where HIGH stood, and
+//! which names were looked for.
 //! Document 01 says which answers a call can give at all; a run that is meant to reach them all names those that it missed.
 
 use std::fmt;
 
 use super::case::{Call, Origin};
+use super::lookups::Lookups;
 use crate::linker::NO_ADDRESS;
 
 /// A column of the table: a call, and for LOAD where its file comes from.
@@ -93,6 +95,7 @@ pub struct Coverage {
     past_end: [u64; 2],
     /// HIGH of MEMORY and of END, where it parts from the next address less one.
     highs: [[u64; HIGHS.len()]; 2],
+    pub lookups: Lookups,
 }
 
 impl Coverage {
@@ -163,6 +166,7 @@ impl Coverage {
                 missing.push(format!("HIGH of {name} apart from the next address: {kind}"));
             }
         }
+        missing.extend(self.lookups.missing());
         missing
     }
 }
@@ -176,7 +180,7 @@ fn shown(first: u64, last: u64) -> String {
 }
 
 impl fmt::Display for Coverage {
-    /// The two tables. A `-` is an answer that document 01 does not have for the call.
+    /// The tables. A `-` is an answer that document 01 does not have for the call, or a name that cannot stand there.
     fn fmt(&self, f: &mut fmt::Formatter<'_>) -> fmt::Result {
         let shown_columns: Vec<usize> =
             (0..COLUMNS.len()).filter(|&at| self.answers[at].iter().any(|&count| count > 0)).collect();
@@ -202,6 +206,11 @@ impl fmt::Display for Coverage {
         let [symbols, undefined] = self.past_end;
         writeln!(f, "past the end of the list: SYMBOLS {symbols}, UNDEFINED {undefined}")?;
         let [memory, end] = self.highs;
-        write!(f, "HIGH apart from the next address less one ({}): MEMORY {memory:?}, END {end:?}", HIGHS.join(", "))
+        writeln!(
+            f,
+            "HIGH apart from the next address less one ({}): MEMORY {memory:?}, END {end:?}",
+            HIGHS.join(", ")
+        )?;
+        self.lookups.fmt(f)
     }
 }

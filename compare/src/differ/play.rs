@@ -9,6 +9,7 @@ use crate::calls::{CallAnswer, Calls, EndAnswer, LoadAnswer, MemoryAnswer, Symbo
 use crate::lent::Lent;
 use crate::linker::{MOST_SYMBOLS, PROGRAM_WORDS};
 use crate::memory::*;
+use crate::name::Name;
 use crate::object::Item;
 use crate::reader;
 
@@ -239,6 +240,7 @@ impl<'a> Player<'a> {
             return Err(format!("answered {answer:?}, the Rust linker {expected:?}"));
         }
         noted?;
+        self.note_names(&step.call, answer, &before);
         self.check_paper(step, answer)?;
         if bytes != step.call.bytes() {
             return Err("wrote into the bytes that were lent for reading".into());
@@ -256,6 +258,16 @@ impl<'a> Player<'a> {
         if let (Some(rounds), Answer::Load(load)) = (step.rounds, answer) {
             if load.rounds != rounds {
                 return Err(format!("both answered {} rounds, the paper says {rounds}", load.rounds));
+            }
+        }
+        if let (Some(expected), Answer::Symbol(symbol)) = (step.symbol, answer) {
+            if symbol != expected {
+                return Err(format!("both answered {symbol:?}, the paper says {expected:?}"));
+            }
+        }
+        if let (Some(expected), Answer::Undefined(undefined)) = (step.undefined, answer) {
+            if undefined != expected {
+                return Err(format!("both answered {undefined:?}, the paper says {expected:?}"));
             }
         }
         let high = self.high(answer);
@@ -323,14 +335,10 @@ impl<'a> Player<'a> {
         let Some(column) = Column::of(call) else { return Ok(()) };
         let (number, _, _) = answer.parts();
         self.coverage.note(column, number);
-        match answer {
-            Answer::Load(LoadAnswer { number: 0, rounds, .. }) => {
-                self.coverage.note_rounds(rounds, sections_of(call.bytes()));
-            }
-            Answer::Symbol(SymbolAnswer { none: 1, .. }) | Answer::Undefined(UndefinedAnswer { none: 1, .. }) => {
-                self.coverage.note_past_end(column);
-            }
-            _ => {}
+        if let Answer::Symbol(SymbolAnswer { none: 1, .. }) | Answer::Undefined(UndefinedAnswer { none: 1, .. }) =
+            answer
+        {
+            self.coverage.note_past_end(column);
         }
         if let (Some(high), Some(&next)) = (self.high(answer), self.subject.state.view().get(NEXT)) {
             self.coverage.note_high(column, high, next);
@@ -339,6 +347,26 @@ impl<'a> Player<'a> {
             return Err(format!("{number} is no answer of this call"));
         }
         Ok(())
+    }
+
+    /// Counts the rounds of a load, and the names that a load or FORCE has looked for.
+    fn note_names(&mut self, call: &Call, answer: Answer, before: &[u64]) {
+        match answer {
+            Answer::Load(LoadAnswer { number: number @ (0 | 9..=14), line, rounds }) => {
+                let Ok(items) = reader::read(call.bytes()) else { return };
+                if number == 0 {
+                    let sections = items.iter().filter(|item| matches!(item, Item::Section(_))).count();
+                    self.coverage.note_rounds(rounds, sections);
+                }
+                self.coverage.lookups.note_load(before, &items, number, line);
+            }
+            Answer::Call(CallAnswer { number: number @ (0 | 14), .. }) => {
+                if let (Call::Force(_), Some(name)) = (call, Name::parse(call.bytes())) {
+                    self.coverage.lookups.note_force(before, name, number);
+                }
+            }
+            _ => {}
+        }
     }
 
     fn compare_memory(&self, call: &ResolvedCall) -> Result<(), String> {
@@ -407,11 +435,6 @@ fn same<T: PartialEq + fmt::Debug>(what: &str, found: &[T], expected: &[T]) -> R
         Some(place) => Err(format!("{what} {place} is {:?}, and should be {:?}", found[place], expected[place])),
         None => Err(format!("{what}s: {} of them, and should be {}", found.len(), expected.len())),
     }
-}
-
-/// How many library sections a file has.
-fn sections_of(file: &[u8]) -> usize {
-    reader::read(file).map_or(0, |items| items.iter().filter(|item| matches!(item, Item::Section(_))).count())
 }
 
 fn symbols_in(state: &[u64]) -> u64 {

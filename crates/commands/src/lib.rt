@@ -1,5 +1,8 @@
 // The calls that change a state: RESET, BASE, FORCE and END. Each tests what document 01 names, in its order, and asks nothing of
 // what it is lent.
+mod names;
+
+use crate::names::mention;
 use image::image_length;
 use image::write_image;
 use rules::answer::BUFFER;
@@ -20,7 +23,6 @@ use state::header::shut_by;
 use state::layout::BROKEN;
 use state::layout::FROZEN;
 use state::layout::SIZE;
-use state::table::mention;
 use text::names::Name;
 use text::names::read_name;
 ghost use mathlib.Core.Path.{_≡_};

@@ -1,28 +1,26 @@
 -- The modules of a section are added to the index, part by part.
-use Prim.Native.Nat.{ℕ, zero, suc, _+_, _-_, _*_, _/_, _%_, _<_, _≤_, min}
+use Prim.Native.Nat.{ℕ, suc, _+_, _-_, _*_, _/_, _<_, _≤_}
 use native.Mathlib.Nat.{add-zero}
 use native.Mathlib.Omega.{arith}
 use native.Mathlib.Decide.{ℕ-discrete}
-use mathlib.Core.Bool.{Bool, true, false, cond, not, _&&_, _||_}
-use mathlib.Core.List.{List, [], _∷_, _++_, map}
+use mathlib.Core.Bool.{Bool, true, false, cond, not, _||_}
+use mathlib.Core.List.{List, [], _∷_, _++_}
 use mathlib.Core.Logic.{_⊎_, inl, inr, _≢_}
 use mathlib.Core.Path.{_≡_, refl, sym, ap, ap₂, subst, _∙_}
 use lib.ListN.{length, getD, take, drop, length-take, length-drop}
 use lib.Seq.{getD-take, getD-drop}
 use lib.Dec.{eqb}
-use borrow.Author.Tests.{eqb-true, eqb-false, eq-eqb, ne-eqb, not-true, not-false}
+use borrow.Author.Tests.{eqb-true, eq-eqb, ne-eqb, not-false}
 use Rattle.rules.specs.Text.{any}
 use Rattle.rules.specs.Placing.{twice, entriesIn}
 use Rattle.rules.specs.Load.{entryNames, sectionNames}
-use Rattle.rules.proofs.BoolLaws.{never, or-on, any-append, eqb-same}
+use Rattle.rules.proofs.BoolLaws.{never, eqb-same}
 use Rattle.tables.specs.Tables.{headIn, bodyIn, startIn, endIn, cellsIn, moduleIn, modulesIn}
-use Rattle.tables.specs.Heads.{partsFrom, isEntry}
-use Rattle.tables.specs.Heads.{namesIn}
-use Rattle.tables.proofs.HeadLaws.{parts-done}
-use Rattle.tables.proofs.HeadLaws.{names-next}
-use Rattle.index.specs.Index.{size, countOf, nameAt, ownerAt, lastWhere, namedBelow, named, holds, Indexed, Found, Added, PartAdded, namesFrom, Owner, Owns, clash, Filled, ModuleAdded, Cleared, Tested}
+use Rattle.tables.specs.Heads.{partsFrom, isEntry, namesIn}
+use Rattle.tables.proofs.HeadLaws.{parts-done, names-next}
+use Rattle.index.specs.Index.{size, countOf, nameAt, ownerAt, lastWhere, named, holds, Indexed, Sought, entered, Added, PartAdded, namesFrom, Owner, Owns, clash, Filled, Cleared, Tested}
 use Rattle.index.proofs.LastLaws.{last-most, last-same, last-next}
-use Rattle.index.proofs.IndexLaws.{cleared-indexed}
+use Rattle.index.proofs.EnterLaws.{cleared-indexed, entry-added}
 
 -- ---- tests of lists
 
@@ -59,7 +57,7 @@ module _ {parts : List ℕ} {part owner : ℕ} {before after : List ℕ} (a : Ad
   named-after : (y : ℕ) {b : Bool} → eqb z y ≡ b → named parts after y ≡ cond b (suc n) (named parts before y)
   named-after y {b} e =
       let more : countOf after ≡ suc n = omega (arith, a .count) in
-      ap (namedBelow parts after y) more
+      ap (lastWhere (λ k. eqb (nameAt parts after k) y)) more
       ∙ last-next (λ k. eqb (nameAt parts after k) y) n (ap (λ v. eqb v y) (a .name) ∙ e)
       ∙ ap (cond b (suc n)) (last-same _ _ n (λ k h. ap (λ v. eqb v y) (a .names k h)))
 
@@ -120,30 +118,36 @@ module _ {parts : List ℕ} {part owner : ℕ} {before after : List ℕ} (a : Ad
 
 -- ---- a part, if it is an entry
 
-module _ {parts : List ℕ} {part owner : ℕ} {before : List ℕ} where
+module _ {parts : List ℕ} (part owner : ℕ) {before : List ℕ} where
   pub part-other : Indexed parts before → isEntry (headIn parts part) ≡ false → PartAdded parts part owner before false before
   part-other g e =
       record { long = g .long; other = λ _. (refl, refl); again = λ h. never h e; new = λ h. never h e }
 
-  pub part-new : isEntry (headIn parts part) ≡ true → {name k : ℕ} → name ≡ bodyIn parts part → Found parts before name k → k ≡ 0 →
-      {after : List ℕ} → Added parts part owner before after → PartAdded parts part owner before false after
-  part-new e q f z a =
-      record {
-        long = a .indexed .long;
-        other = λ h. never e h;
-        again = λ _ r. never r refl;
-        new = λ _ _. (ap not (eq-eqb _ _ (sym (f .is ∙ ap (named parts before) q) ∙ z)), a);
-      }
+  module _ (g : Indexed parts before) (e : isEntry (headIn parts part) ≡ true) {name at : ℕ} (q : name ≡ bodyIn parts part)
+      (s : Sought parts before name at) where
+    own : Sought parts before (bodyIn parts part) at
+    own = subst (λ y. Sought parts before y at) q s
 
-  pub part-again : Indexed parts before → isEntry (headIn parts part) ≡ true → {name k : ℕ} → name ≡ bodyIn parts part →
-      Found parts before name k → k ≢ 0 → PartAdded parts part owner before true before
-  part-again g e q f n =
-      record {
-        long = g .long;
-        other = λ h. never e h;
-        again = λ _ _. ap not (ne-eqb _ _ (λ z. n (f .is ∙ ap (named parts before) q ∙ z)));
-        new = λ _ r. never refl r;
-      }
+    pub part-new : owner < 256 → (isEntry (headIn parts part) ≡ true → countOf before < 16384) → getD before at 0 ≡ 0 →
+        {after : List ℕ} → after ≡ entered at part owner before → PartAdded parts part owner before false after
+    part-new o f z {after} i =
+        let a : Added parts part owner before after =
+        subst (Added parts part owner before) (sym i) (entry-added part g own z o (f e)) in
+        record {
+          long = a .indexed .long;
+          other = λ h. never e h;
+          again = λ _ r. never r refl;
+          new = λ _ _. (ap not (eq-eqb _ _ (sym (own .found .is) ∙ z)), a);
+        }
+
+    pub part-again : getD before at 0 ≢ 0 → PartAdded parts part owner before true before
+    part-again n =
+        record {
+          long = g .long;
+          other = λ h. never e h;
+          again = λ _ _. ap not (ne-eqb _ _ (λ z. n (own .found .is ∙ z)));
+          new = λ _ r. never refl r;
+        }
 
 -- ---- the cells of a module
 
@@ -352,7 +356,7 @@ module _ (parts rows : List ℕ) (first n m : ℕ) where
 -- ---- a section
 
 module _ (parts rows : List ℕ) (first n : ℕ) where
-  pub filled-start : {index : List ℕ} → Cleared 2049 index → Filled parts rows first n 0 index
+  pub filled-start : {index : List ℕ} → Cleared 2048 index → Filled parts rows first n 0 index
   unfolding lastWhere
   filled-start {index} c =
       let none : countOf index ≡ 0 = c .zeros 0 (omega arith) in
@@ -362,7 +366,7 @@ module _ (parts rows : List ℕ) (first n : ℕ) where
         comes =
             ap
             (λ b. twice (namesFrom parts rows first n 0) || b)
-            (any-none _ (λ y. ap (λ k. not (eqb (namedBelow parts index y k) 0)) none) (namesFrom parts rows first n 0))
+            (any-none _ (λ y. ap (λ k. not (eqb (lastWhere (λ j. eqb (nameAt parts index j) y) k) 0)) none) (namesFrom parts rows first n 0))
             ∙ off (twice (namesFrom parts rows first n 0));
       }
     where

@@ -1,10 +1,10 @@
 -- The last part that passes a test.
-use Prim.Native.Nat.{ℕ, zero, suc, _+_, _-_, _<_, _≤_}
+use Prim.Native.Nat.{ℕ, zero, suc, _-_, _<_, _≤_}
 use native.Mathlib.Omega.{arith}
+use native.Mathlib.Decide.{ℕ-discrete}
 use mathlib.Core.Bool.{Bool, true, false, cond}
 use mathlib.Core.Logic.{_≢_}
-use mathlib.Core.Path.{_≡_, refl, sym, ap, subst, _∙_}
-use Rattle.rules.proofs.BoolLaws.{never}
+use mathlib.Core.Path.{_≡_, refl, ap, _∙_}
 use Rattle.index.specs.Index.{lastWhere}
 
 pub last-most : (p : ℕ → Bool) (j : ℕ) → lastWhere p j ≤ j
@@ -40,15 +40,16 @@ pub last-next : (p : ℕ → Bool) (j : ℕ) {b : Bool} → p j ≡ b → lastWh
 unfolding lastWhere
 last-next p j e = ap (λ b. cond b (suc j) (lastWhere p j)) e
 
--- a part that passes a finer test is not behind the last one of the coarser
-pub last-finer : (fine coarse : ℕ → Bool) → ((k : ℕ) → fine k ≡ true → coarse k ≡ true) → (j : ℕ) →
-    lastWhere fine j ≡ lastWhere fine (lastWhere coarse j)
+-- where there is none, no part passes
+pub last-none : (p : ℕ → Bool) (j : ℕ) → lastWhere p j ≡ 0 → (k : ℕ) → k < j → p k ≡ false
 unfolding lastWhere
-last-finer fine coarse f zero = refl
-last-finer fine coarse f (suc j) = go (coarse j) (fine j) refl refl (last-finer fine coarse f j)
+last-none p zero z k h = absurd (omega arith)
+last-none p (suc j) z k h = go (p j) refl z (last-none p j)
   where
-    go : (b c : Bool) → coarse j ≡ b → fine j ≡ c → lastWhere fine j ≡ lastWhere fine (lastWhere coarse j) →
-        cond (fine j) (suc j) (lastWhere fine j) ≡ lastWhere fine (cond b (suc j) (lastWhere coarse j))
-    go true c e d ih = refl
-    go false true e d ih = never (f j d) e
-    go false false e d ih = ap (λ t. cond t (suc j) (lastWhere fine j)) d ∙ ih
+    go : (b : Bool) → p j ≡ b → cond b (suc j) (lastWhere p j) ≡ 0 → (lastWhere p j ≡ 0 → (k : ℕ) → k < j → p k ≡ false) →
+        p k ≡ false
+    go true e z f = absurd (omega (arith, z))
+    go false e z f = elim (ℕ-discrete k j) [
+      | yes q ↦ ap p q ∙ e
+      | no q ↦ f z k (omega (arith, h, q))
+    ]

@@ -1,3 +1,5 @@
 pub mod LastLaws
-pub mod IndexLaws
+pub mod SeekLaws
+pub mod EnterLaws
 pub mod FillLaws
+pub mod PathLaws

@@ -81,6 +81,10 @@ module _ (cells : List ℕ) (i : ℕ) where
 
 -- ---- laying the words
 
+-- the table is not touched
+pub lay-table : {base : ℕ} {whole rest : List Code} {s₀ s : State} → Laying base whole s₀ rest s → s .symbols ≡ s₀ .symbols
+lay-table l = ap (λ (v : State). v .symbols) (l .laid-is)
+
 module _ (base : ℕ) (whole : List Code) (s₀ : State) where
   module _ (cells : List ℕ) (i : ℕ) (h : 1 < length cells - i) where
     pub lay-skip : (s : State) → isWord (headAt cells i) ≡ false →
@@ -119,7 +123,7 @@ module _ (base : ℕ) (whole : List Code) (s₀ : State) where
   lay-done cells i h state g l =
       let e : Laying base whole s₀ [] (decode state) =
       subst (λ cs. Laying base whole s₀ cs (decode state)) (codes-done cells i h) l in
-      record { clash-is = e .clash-is; good = g; done = λ _. e .laid-is }
+      record { clash-is = e .clash-is; good = g; table-is = lay-table l; done = λ _. e .laid-is }
 
 -- ---- linking the words
 

@@ -32,6 +32,7 @@ laid base cs s = withWords (plainAll base cs (s .words)) s
 pub record Laid (base : ℕ) (cs : List Code) (s : State) (r : Bool) (after : List ℕ) : Type 0 where
   pub clash-is : r ≡ clash base cs (s .words)
   pub good : Good after
+  pub table-is : decode after .symbols ≡ s .symbols
   pub done : r ≡ false → decode after ≡ laid base cs s
 
 -- on the way: what the rest comes to from here is what the whole comes to from the start

@@ -21,7 +21,6 @@ use rules::answer::TABLE;
 use rules::limits::PROGRAM_WORDS;
 use state::header::next_address;
 use state::header::set_next;
-use state::table::guesses;
 use tables::rows::module_cells;
 use tables::rows::row_line;
 ghost use Prim.Native.Nat.{_<_};
@@ -30,15 +29,16 @@ ghost use Rattle.rules.proofs.ReadingLaws.{ModuleSound};
 ghost use Rattle.tables.specs.Tables.{mostCells, partsOf, moduleIn};
 ghost use Rattle.state.specs.Layout.{decode};
 ghost use Rattle.state.specs.Good.{Good};
+ghost use Rattle.order.specs.Order.{Ordered};
 ghost use Rattle.placing.specs.Effects.{Tried};
 ghost use Rattle.placing.specs.Walks.{PlacedRow};
 
 // The number of the fault, 0 where the module is placed. After a fault the state is good, but not the one before: the
 // caller has a copy of that.
-fn place(parts: &[u64], state: &mut [u64]) -> u64
+fn place(parts: &[u64], order: &mut [u8], state: &mut [u64]) -> u64
     requires { ⌜ ModuleSound (moduleAt 0 (partsOf (now parts))) ⌝ }
-    requires { ⌜ Good (now state) ⌝ }
-    ensures { λ r. ⌜ Tried (decode (now (state .entry))) (moduleAt 0 (partsOf (now (parts .entry)))) r (now (state .exit)) ⌝ }
+    requires { ⌜ Good (now state) × Ordered (now state) (now order) ⌝ }
+    ensures { λ r. ⌜ Tried (decode (now (state .entry))) (moduleAt 0 (partsOf (now (parts .entry)))) r (now (state .exit)) × Ordered (now (state .exit)) (now (order .exit)) ⌝ }
 {
     let base = next_address(state);
     let extent = survey(parts);
@@ -55,11 +55,11 @@ fn place(parts: &[u64], state: &mut [u64]) -> u64
     if out_of_range(parts, base) {
         return RANGE;
     }
-    let fault = enter(parts, base, state);
+    let fault = enter(parts, base, order, state);
     if fault != DONE {
         return fault;
     }
-    let mentions = mention_all(parts, guesses(state, extent.externals), state);
+    let mentions = mention_all(parts, order, state);
     if !mentions.room {
         return TABLE;
     }
@@ -75,17 +75,18 @@ pub fn place_row(
     rows: &[u64],
     row: usize,
     refusal: Refusal,
+    order: &mut [u8],
     state: &mut [u64],
 ) -> Refusal
     requires { ⌜ row < mostCells ⌝ }
     requires { ⌜ ModuleSound (moduleIn (now parts) (now rows) row) ⌝ }
-    requires { ⌜ Good (now state) ⌝ }
-    ensures { λ r. ⌜ PlacedRow (moduleIn (now (parts .entry)) (now (rows .entry)) row) refusal (now (state .entry)) r (now (state .exit)) ⌝ }
+    requires { ⌜ Good (now state) × Ordered (now state) (now order) ⌝ }
+    ensures { λ r. ⌜ PlacedRow (moduleIn (now (parts .entry)) (now (rows .entry)) row) refusal (now (state .entry)) r (now (state .exit)) × Ordered (now (state .exit)) (now (order .exit)) ⌝ }
 {
     if refusal.number != DONE {
         return refusal;
     }
-    let number = place(module_cells(parts, rows, row), state);
+    let number = place(module_cells(parts, rows, row), order, state);
     if number == DONE {
         return Refusal { number, line: 0 };
     }

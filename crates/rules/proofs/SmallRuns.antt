@@ -1,6 +1,6 @@
 -- Small runs that pin the definitions where P1 to P10 do not reach: a row for each sentence, all of them under one claim that antt
 -- computes. What stands to the right is worked out from document 01, with plain numbers.
-use Prim.Native.Nat.{ℕ, zero, suc, _-_, _^_}
+use Prim.Native.Nat.{ℕ, zero, suc, _-_, _*_, _^_}
 use Prim.Native.String.{String}
 use mathlib.Core.Bool.{Bool, true, false, cond}
 use mathlib.Core.List.{List, [], _∷_, _++_}
@@ -11,6 +11,7 @@ use Rattle.rules.specs.Answers as Answers
 use Rattle.rules.specs.Line as Line
 use Rattle.rules.specs.Reading as Reading
 use Rattle.rules.specs.State as State
+use Rattle.rules.specs.Lookup as Lookup
 use Rattle.rules.specs.Calls as Calls
 use Rattle.rules.specs.History as History
 use Rattle.rules.specs.History.{Call, loading, forcing, basing, resetting, askingHigh, listing, listingUndefined, ending, workFits, canAnswer, calledAll}
@@ -25,6 +26,8 @@ use Rattle.rules.specs.Line.{lineAnswer}
 use Rattle.rules.specs.Reading.{free, readingOf, itemsOf}
 use Rattle.rules.specs.State.{Symbol, symbol, Word, plain, unplaced, refers, Mark, unmarked, broken, frozen, State, state, fresh, positionOf, high, highest, sound}
 use Rattle.rules.specs.Calls.{wrongLength, damaged, holding, Left, asBefore, now, Outcome, outcome, workAfter, load, force, base, reset, memory, symbols, undefined, end}
+use Rattle.rules.specs.Lookup.{lookup, answered, readBy, lookUp, nameAt}
+use Rattle.rules.specs.declared.lookup.Lookup.{Lookup}
 use Rattle.rules.specs.declared.line.FaultKind.{FaultKind}
 use Rattle.rules.specs.declared.line.FaultKind.the-variants.{IllegalByte, BadMarker, FieldCount, BadNumber, BadName, BadType}
 use Rattle.rules.specs.declared.line.Fault.{Fault}
@@ -486,6 +489,52 @@ Marks =
     × (end (holding (linked frozen)) [] ≡ record { call = outcome (record { number = 16; line = 0; length = 0 }) asBefore; output = [] })
     × (end (holding (linked frozen)) (replicate 38 1) .call ≡ outcome (record { number = 0; line = 0; length = 38 }) (now (linked frozen)))
 
+-- 02, 2/14: a table in order of first mention, and the order of its names: B, D, F, H, K
+abbrev mentioned : List Symbol
+mentioned =
+    symbol (name "H") 0 false
+    ∷ symbol (name "D") 0 false
+    ∷ symbol (name "B") 5 true
+    ∷ symbol (name "K") 0 false
+    ∷ symbol (name "F") 0 false
+    ∷ []
+
+abbrev byName : List ℕ
+byName = 2 ∷ 1 ∷ 4 ∷ 0 ∷ 3 ∷ []
+
+-- what a lookup tells, and the positions whose names it has read
+abbrev looking : List ℕ → String → Lookup × List ℕ
+looking order text =
+    let s = lookUp order 5 (name text) in
+    (answered (nameAt mentioned) s, readBy (nameAt mentioned) s)
+
+-- a table of 256 symbols that are in order
+pub upTo : ℕ → List ℕ
+upTo zero = []
+upTo (suc n) = upTo n ++ (n ∷ [])
+
+abbrev reading : ℕ → List ℕ
+reading x = readBy (λ p. 2 * p) (lookUp (upTo 256) 256 x)
+
+-- each of five names; a name below all, between two and above all; no names; an order that is wrong; nine names and eight
+abbrev Lookups : Type 0
+Lookups =
+    (looking byName "F" ≡ (lookup 2 4, 4 ∷ []))
+    × (looking byName "B" ≡ (lookup 0 2, 4 ∷ 1 ∷ 2 ∷ []))
+    × (looking byName "D" ≡ (lookup 1 1, 4 ∷ 1 ∷ []))
+    × (looking byName "H" ≡ (lookup 3 0, 4 ∷ 3 ∷ 0 ∷ []))
+    × (looking byName "K" ≡ (lookup 4 3, 4 ∷ 3 ∷ []))
+    × (looking byName "A" ≡ (lookup 0 5, 4 ∷ 1 ∷ 2 ∷ []))
+    × (looking byName "C" ≡ (lookup 1 5, 4 ∷ 1 ∷ 2 ∷ []))
+    × (looking byName "G" ≡ (lookup 3 5, 4 ∷ 3 ∷ 0 ∷ []))
+    × (looking byName "L" ≡ (lookup 5 5, 4 ∷ 3 ∷ []))
+    × (looking (0 ∷ 1 ∷ 2 ∷ 3 ∷ 4 ∷ []) "H" ≡ (lookup 5 5, 2 ∷ 4 ∷ []))
+    × (answered (nameAt []) (lookUp [] 0 (name "A")) ≡ lookup 0 0)
+    × (nameAt mentioned 5 ≡ 0)
+    × (reading 0 ≡ 128 ∷ 64 ∷ 32 ∷ 16 ∷ 8 ∷ 4 ∷ 2 ∷ 1 ∷ 0 ∷ [])
+    × (reading 1 ≡ 128 ∷ 64 ∷ 32 ∷ 16 ∷ 8 ∷ 4 ∷ 2 ∷ 1 ∷ 0 ∷ [])
+    × (reading 510 ≡ 128 ∷ 192 ∷ 224 ∷ 240 ∷ 248 ∷ 252 ∷ 254 ∷ 255 ∷ [])
+
 -- the names of the answers, by number
 abbrev Names : Type 0
 Names =
@@ -522,8 +571,8 @@ Answering =
 
 -- ---- the claim
 
-pub small-table : Lines × Bytes × Headers × Records × CodeWords × Kinds × Leftmost × Files × Lists × Walks × Orders × Placed × Soundness × Highs × Looking × Lengths × Marks × Names × Answering
-unfolding Load.takenAt Load.takenIn Load.sectionsAt Load.sectionsIn Search.count times passing History.canAnswer History.leftBy History.stateAfter History.called History.calledAll Text.bytes Text.all Text.any Text.widenLine Text.cutLines Text.withoutEnd Text.linesOf Text.legalFront Text.startsField Text.widenField Text.addToFields Text.fieldsFrom Text.fieldsOf Text.octal Text.isNumber Text.numberOf Text.isName Text.packName Text.nameOf Text.upToZero Text.unpackName Text.isPacked Line.headers Line.rowIn Line.rowOf Line.markerIn Text.sameText Line.held Line.inBounds Line.readField Line.inFront Line.fit Line.said Line.readAs Line.recordShape Line.codeLine Line.entryLine Line.sayHeader Line.rowAt Line.firstText Line.headerLine Line.isOne Line.textAt Line.fieldsSay Line.lineOf Line.faultWithin Line.testBytes Line.lineAnswer Reading.atStart Reading.expect Reading.expectRecords Reading.recordDone Reading.expectSubs Reading.titleHeader Reading.enterModule Reading.leaveModule Reading.enterSection Reading.leaveSection Reading.countEntry Reading.countExternal Reading.titleStep Reading.libraryStep Reading.libraryEndStep Reading.headerStep Reading.closingStep Reading.entryStep Reading.externalStep Reading.parameterStep Reading.subStep Reading.stepOf Reading.unread Reading.moduleDone Reading.stepped Reading.ifComplete Reading.readLine Reading.readLines Reading.isHeader Reading.atEnd Reading.readingOf Reading.itemsOf State.noWords State.fresh State.isSymbol State.isDefined State.isUndefined State.positionOf State.undefinedOnly State.placedWords State.highestFrom State.highestWhere State.soundSymbol State.differentNames State.soundWord State.sound Placing.entriesIn Placing.externalsIn Placing.codeIn Placing.lengthIn Placing.countIn Placing.valueAt Placing.define Placing.mention Placing.defineAll Placing.mentionAll Placing.joined Placing.linked Placing.putAll Placing.noRoom Placing.overlaps Placing.badArgument Placing.badArguments Placing.outOfRange Placing.twice Placing.duplicates Placing.tableFull Placing.placingFault Placing.placed Search.noModules Search.withModule Search.visit Search.sweep Search.round Search.rounds Search.search Load.tryPlace Load.place Load.entryNames Load.isNeeded Load.takes Load.searched Load.sectionNames Load.testSection Load.walkItem Load.walkItems Load.walked Load.loadRead Load.loadFile Image.valueOf Image.completed Image.two Image.quarters Image.wordRecord Image.recordOf Image.recordsFrom Image.endRecord Image.imageOf Calls.workAfter Calls.shutBy Calls.loadState Calls.loadLent Calls.load Calls.forceState Calls.force Calls.baseState Calls.base Calls.reset Calls.memory Calls.symbolAt Calls.symbols Calls.undefinedAt Calls.undefined Calls.isBroken Calls.endState Calls.end Answers.answers Answers.nameIn Answers.answerName
+pub small-table : Lines × Bytes × Headers × Records × CodeWords × Kinds × Leftmost × Files × Lists × Walks × Orders × Placed × Soundness × Highs × Looking × Lengths × Marks × Lookups × Names × Answering
+unfolding Load.takenAt Load.takenIn Load.sectionsAt Load.sectionsIn Search.count times passing History.canAnswer History.leftBy History.stateAfter History.called History.calledAll Text.bytes Text.all Text.any Text.widenLine Text.cutLines Text.withoutEnd Text.linesOf Text.legalFront Text.startsField Text.widenField Text.addToFields Text.fieldsFrom Text.fieldsOf Text.octal Text.isNumber Text.numberOf Text.isName Text.packName Text.nameOf Text.upToZero Text.unpackName Text.isPacked Line.headers Line.rowIn Line.rowOf Line.markerIn Text.sameText Line.held Line.inBounds Line.readField Line.inFront Line.fit Line.said Line.readAs Line.recordShape Line.codeLine Line.entryLine Line.sayHeader Line.rowAt Line.firstText Line.headerLine Line.isOne Line.textAt Line.fieldsSay Line.lineOf Line.faultWithin Line.testBytes Line.lineAnswer Reading.atStart Reading.expect Reading.expectRecords Reading.recordDone Reading.expectSubs Reading.titleHeader Reading.enterModule Reading.leaveModule Reading.enterSection Reading.leaveSection Reading.countEntry Reading.countExternal Reading.titleStep Reading.libraryStep Reading.libraryEndStep Reading.headerStep Reading.closingStep Reading.entryStep Reading.externalStep Reading.parameterStep Reading.subStep Reading.stepOf Reading.unread Reading.moduleDone Reading.stepped Reading.ifComplete Reading.readLine Reading.readLines Reading.isHeader Reading.atEnd Reading.readingOf Reading.itemsOf State.noWords State.fresh State.isSymbol State.isDefined State.isUndefined State.positionOf State.undefinedOnly State.placedWords State.highestFrom State.highestWhere State.soundSymbol State.differentNames State.soundWord State.sound Placing.entriesIn Placing.externalsIn Placing.codeIn Placing.lengthIn Placing.countIn Placing.valueAt Placing.define Placing.mention Placing.defineAll Placing.mentionAll Placing.joined Placing.linked Placing.putAll Placing.noRoom Placing.overlaps Placing.badArgument Placing.badArguments Placing.outOfRange Placing.twice Placing.duplicates Placing.tableFull Placing.placingFault Placing.placed Search.noModules Search.withModule Search.visit Search.sweep Search.round Search.rounds Search.search Load.tryPlace Load.place Load.entryNames Load.isNeeded Load.takes Load.searched Load.sectionNames Load.testSection Load.walkItem Load.walkItems Load.walked Load.loadRead Load.loadFile Image.valueOf Image.completed Image.two Image.quarters Image.wordRecord Image.recordOf Image.recordsFrom Image.endRecord Image.imageOf Calls.workAfter Calls.shutBy Calls.loadState Calls.loadLent Calls.load Calls.forceState Calls.force Calls.baseState Calls.base Calls.reset Calls.memory Calls.symbolAt Calls.symbols Calls.undefinedAt Calls.undefined Calls.isBroken Calls.endState Calls.end Answers.answers Answers.nameIn Answers.answerName Lookup.answered Lookup.readBy Lookup.halves Lookup.lookUp upTo
 small-table = (
   (refl, refl, refl, refl, refl),
   (refl, refl, refl, refl, refl, refl, refl, refl, refl),
@@ -542,6 +591,7 @@ small-table = (
   (refl, refl, refl, refl, refl, refl, refl, refl, refl, refl),
   (refl, refl, refl, refl, refl, refl, refl, refl, refl, refl, refl, refl, refl, refl, refl, refl, refl, refl, refl, refl, refl),
   (refl, refl, refl, refl, refl, refl, refl, refl, refl, refl, refl, refl, refl),
+  (refl, refl, refl, refl, refl, refl, refl, refl, refl, refl, refl, refl, refl, refl, refl),
   (refl, refl, refl, refl, refl, refl, refl, refl, refl, refl, refl, refl, refl, refl, refl, refl, refl, refl),
   (refl, refl, refl, refl, refl, refl, refl, refl),
 )

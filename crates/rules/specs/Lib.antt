@@ -4,6 +4,7 @@ pub mod Answers
 pub mod Line
 pub mod Reading
 pub mod State
+pub mod Lookup
 pub mod Placing
 pub mod Search
 pub mod Load

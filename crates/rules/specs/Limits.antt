@@ -55,3 +55,7 @@ noAddress = 65535
 -- "its fixed length", of work memory: the paper leaves it to us; two cells for each of the parts that the longest file can have
 abbrev pub workSize : ℕ
 workSize = 65536
+
+-- document 02, 2/14: a lookup in a load reads "at most nine of the table's names"
+abbrev pub mostNames : ℕ
+mostNames = 9

@@ -2,4 +2,5 @@
 pub mod answer;
 pub mod limits;
 pub mod line;
+pub mod lookup;
 pub mod reading;

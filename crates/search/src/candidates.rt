@@ -17,7 +17,7 @@ ghost use Rattle.index.specs.Index.{Indexed};
 ghost use Rattle.search.specs.Flags.{Marked};
 
 // The module that enters this name is a candidate.
-fn mark_owner(parts: &[u64], index: &[u64], name: u64, candidates: &mut [u8])
+fn mark_owner(parts: &[u64], index: &[u16], name: u64, candidates: &mut [u8])
     requires { ⌜ Indexed (now parts) (now index) ⌝ }
     requires { ⌜ length (now candidates) ≡ mostModules ⌝ }
     ensures { λ r. ⌜ Marked (now (parts .entry)) (now (index .entry)) (eqb name) (now (candidates .entry)) (now (candidates .exit)) ⌝ }
@@ -32,7 +32,7 @@ fn mark_owner(parts: &[u64], index: &[u64], name: u64, candidates: &mut [u8])
 // So are the modules that enter a name which stands undefined in the table, at position `from` or behind it.
 pub fn mark_undefined(
     parts: &[u64],
-    index: &[u64],
+    index: &[u16],
     from: usize,
     state: &[u64],
     candidates: &mut [u8],

@@ -10,6 +10,7 @@ ghost use lib.ListN.{length};
 ghost use Rattle.rules.specs.Limits.{mostModules};
 ghost use Rattle.tables.specs.Tables.{modulesIn};
 ghost use Rattle.state.specs.Good.{Good};
+ghost use Rattle.order.specs.Order.{Ordered};
 ghost use Rattle.index.specs.Index.{Owns};
 ghost use Rattle.search.specs.Searching.{SectionSound, Rounded, Sought};
 ghost use Rattle.search.specs.Flags.{Candidates};
@@ -28,14 +29,15 @@ fn one_round(
     section: Section,
     flags: [bool; MODULE_ROOM],
     refusal: Refusal,
-    index: &[u64],
+    index: &[u16],
     candidates: &mut [u8],
+    order: &mut [u8],
     state: &mut [u64],
 ) -> Round
     requires { ⌜ SectionSound (now parts) (now rows) section ⌝ }
     requires { ⌜ Candidates (now parts) (now rows) section refusal (now index) (now state) (now candidates) ⌝ }
-    requires { ⌜ Good (now state) ⌝ }
-    ensures { λ r. ⌜ Rounded (modulesIn (now (parts .entry)) (now (rows .entry)) (section .first) (section .count)) flags refusal (now (state .entry)) r (now (state .exit)) × Candidates (now (parts .entry)) (now (rows .entry)) section (r .refusal) (now (index .entry)) (now (state .exit)) (now (candidates .exit)) ⌝ }
+    requires { ⌜ Good (now state) × Ordered (now state) (now order) ⌝ }
+    ensures { λ r. ⌜ Rounded (modulesIn (now (parts .entry)) (now (rows .entry)) (section .first) (section .count)) flags refusal (now (state .entry)) r (now (state .exit)) × Candidates (now (parts .entry)) (now (rows .entry)) section (r .refusal) (now (index .entry)) (now (state .exit)) (now (candidates .exit)) × Ordered (now (state .exit)) (now (order .exit)) ⌝ }
 {
     let n = section.count;
     let mut marks = flags;
@@ -55,6 +57,7 @@ fn one_round(
                 told,
                 index,
                 candidates,
+                order,
                 state,
             );
             let after = v.refusal;
@@ -76,7 +79,7 @@ fn first_candidates(
     rows: &[u64],
     section: Section,
     refusal: Refusal,
-    index: &[u64],
+    index: &[u16],
     state: &[u64],
     candidates: &mut [u8],
 )
@@ -103,13 +106,14 @@ pub fn search(
     rows: &[u64],
     section: Section,
     refusal: Refusal,
-    index: &[u64],
+    index: &[u16],
+    order: &mut [u8],
     state: &mut [u64],
 ) -> Searched
     requires { ⌜ SectionSound (now parts) (now rows) section ⌝ }
     requires { ⌜ (refusal .number ≡ 0 → Owns (now parts) (now rows) (section .first) (section .count) (now index)) ⌝ }
-    requires { ⌜ Good (now state) ⌝ }
-    ensures { λ r. ⌜ Sought (modulesIn (now (parts .entry)) (now (rows .entry)) (section .first) (section .count)) refusal (now (state .entry)) r (now (state .exit)) ⌝ }
+    requires { ⌜ Good (now state) × Ordered (now state) (now order) ⌝ }
+    ensures { λ r. ⌜ Sought (modulesIn (now (parts .entry)) (now (rows .entry)) (section .first) (section .count)) refusal (now (state .entry)) r (now (state .exit)) × Ordered (now (state .exit)) (now (order .exit)) ⌝ }
 {
     let mut candidates = [0u8; MODULE_ROOM];
     first_candidates(parts, rows, section, refusal, index, state, &mut candidates);
@@ -126,6 +130,7 @@ pub fn search(
             told,
             index,
             &mut candidates,
+            order,
             state,
         );
         let marks = r.flags;

@@ -11,6 +11,7 @@ ghost use Prim.Native.Nat.{_+_, _<_};
 ghost use mathlib.Core.Path.{_≡_};
 ghost use Rattle.tables.specs.Tables.{mostCells, moduleIn};
 ghost use Rattle.state.specs.Good.{Good};
+ghost use Rattle.order.specs.Order.{Ordered};
 ghost use Rattle.search.specs.Searching.{SectionSound, shouldTake, Visited};
 ghost use Rattle.search.specs.Flags.{Candidates};
 
@@ -28,10 +29,11 @@ fn should_take(
     row: usize,
     flag: bool,
     refusal: Refusal,
+    order: &[u8],
     state: &[u64],
 ) -> bool
     requires { ⌜ row < mostCells ⌝ }
-    requires { ⌜ Good (now state) ⌝ }
+    requires { ⌜ Good (now state) × Ordered (now state) (now order) ⌝ }
     ensures { λ r. ⌜ r ≡ shouldTake flag refusal (now (state .entry)) (moduleIn (now (parts .entry)) (now (rows .entry)) row) ⌝ }
 {
     if flag {
@@ -40,7 +42,7 @@ fn should_take(
     if refusal.number != DONE {
         return false;
     }
-    is_needed(module_cells(parts, rows, row), state)
+    is_needed(module_cells(parts, rows, row), order, state)
 }
 
 // Takes the i-th module of the section, if it is to be taken.
@@ -51,17 +53,18 @@ pub fn visit_module(
     i: usize,
     flag: bool,
     refusal: Refusal,
-    index: &[u64],
+    index: &[u16],
     candidates: &mut [u8],
+    order: &mut [u8],
     state: &mut [u64],
 ) -> Visit
     requires { ⌜ SectionSound (now parts) (now rows) section × (i < section .count) ⌝ }
     requires { ⌜ Candidates (now parts) (now rows) section refusal (now index) (now state) (now candidates) ⌝ }
-    requires { ⌜ Good (now state) ⌝ }
-    ensures { λ r. ⌜ Visited (moduleIn (now (parts .entry)) (now (rows .entry)) (section .first + i)) flag refusal (now (state .entry)) r (now (state .exit)) × Candidates (now (parts .entry)) (now (rows .entry)) section (r .refusal) (now (index .entry)) (now (state .exit)) (now (candidates .exit)) ⌝ }
+    requires { ⌜ Good (now state) × Ordered (now state) (now order) ⌝ }
+    ensures { λ r. ⌜ Visited (moduleIn (now (parts .entry)) (now (rows .entry)) (section .first + i)) flag refusal (now (state .entry)) r (now (state .exit)) × Candidates (now (parts .entry)) (now (rows .entry)) section (r .refusal) (now (index .entry)) (now (state .exit)) (now (candidates .exit)) × Ordered (now (state .exit)) (now (order .exit)) ⌝ }
 {
     let row = section.first + i;
-    if !should_take(parts, rows, row, flag, refusal, state) {
+    if !should_take(parts, rows, row, flag, refusal, order, state) {
         return Visit {
             flag,
             took: 0,
@@ -69,7 +72,7 @@ pub fn visit_module(
         };
     }
     let known = symbol_count(state);
-    let after = place_row(parts, rows, row, refusal, state);
+    let after = place_row(parts, rows, row, refusal, order, state);
     mark_undefined(parts, index, known, state, candidates);
     Visit {
         flag: true,

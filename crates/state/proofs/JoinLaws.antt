@@ -16,7 +16,7 @@ use Rattle.rules.specs.Placing.{define, mention}
 use Rattle.rules.specs.Calls.{withSymbols}
 use Rattle.rules.proofs.BoolLaws.{never}
 use Rattle.state.specs.Good.{soundValue, Tidy}
-use Rattle.state.specs.Table.{noSymbol}
+use Rattle.state.specs.Table.{noSymbol, Position}
 use Rattle.state.proofs.BoolLaws.{both, first, second, neither, not-first, not-second, or-false}
 use Rattle.state.proofs.ListLaws.{put, length-put, all-weaken}
 
@@ -87,6 +87,22 @@ name-at-place x (s ∷ t) h = go (eqb (s .name) x) refl (name-at-place x t) h
     go : (b : Bool) → eqb (s .name) x ≡ b → (positionOf x t < length t → getD t (positionOf x t) noSymbol .name ≡ x) → cond b 0 (positionOf x t + 1) < suc (length t) → getD (s ∷ t) (cond b 0 (positionOf x t + 1)) noSymbol .name ≡ x
     go true q f l = eqb-true (s .name) x q
     go false q f l = rw (add-one (positionOf x t)) (f (omega arith))
+
+-- ---- what a search of the names has to show
+
+pub position-known : {t : List Symbol} {x i : ℕ} → differentNames t ≡ true → i < length t → getD t i noSymbol .name ≡ x → Position x t i
+position-known {t} {x} {i} d h e = record { most = omega arith; is = sym (position-there t x i d h e) }
+
+pub position-nowhere : {t : List Symbol} {x : ℕ} → ((i : ℕ) → i < length t → getD t i noSymbol .name ≢ x) → Position x t (length t)
+position-nowhere {t} {x} f = go (ltb (positionOf x t) (length t)) refl (position-most x t)
+  where
+    go : (b : Bool) → ltb (positionOf x t) (length t) ≡ b → positionOf x t ≤ length t → Position x t (length t)
+    go true e m =
+        let h : positionOf x t < length t = ltb-true (positionOf x t) (length t) e in
+        absurd (f (positionOf x t) h (name-at-place x t h))
+    go false e m =
+        let h = ltb-false (positionOf x t) (length t) e in
+        record { most = omega arith; is = omega arith }
 
 -- a table only grows
 pub define-length : (x v : ℕ) (t : List Symbol) → length (define x v t) ≡ max (length t) (positionOf x t + 1)

@@ -1,7 +1,7 @@
 -- The client's fear is "a name still tied to last week's address". Against it: after RESET nothing tells what memory held before.
 use Prim.Native.Nat.{ℕ}
 use mathlib.Core.Bool.{Bool, true, false, cond}
-use mathlib.Core.List.{List, [], _∷_}
+use mathlib.Core.List.{List, _∷_}
 use mathlib.Core.Path.{_≡_, refl, sym, ap, ap₂, _∙_}
 use lib.ListN.{length}
 use borrow.Author.Tests.{eq-eqb}

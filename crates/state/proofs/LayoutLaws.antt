@@ -154,6 +154,13 @@ pub word-is : (cells : List ℕ) (a : ℕ) → a < 4096 → getD (decode cells .
 unfolding decode wordsBelow
 word-is cells a h = getD-map-range (wordIn cells) 4096 a unplaced h
 
+-- a name, 0 behind the last symbol's
+pub name-is : {cells : List ℕ} → Good cells → (i : ℕ) → i < 256 → getD cells (4 + i) 0 ≡ getD (decode cells .symbols) i noSymbol .name
+name-is {cells} g i h =
+    ap (λ (l : List ℕ). getD l (4 + i) 0) (g .encoded)
+    ∙ encode-name (decode cells) (g .tidy .few) i h
+    ∙ List·getD-map nameCell (decode cells .symbols) i noSymbol
+
 -- the cells behind the last symbol's
 module _ {cells : List ℕ} (g : Good cells) (i : ℕ) (b : getD cells 0 0 ≤ i) (h : i < 256) where
   unused : (f : Symbol → ℕ) → getD (map f (decode cells .symbols)) i 0 ≡ 0

@@ -1,15 +1,11 @@
 -- Calls in a row: what the promise of each call says of them all.
 use Prim.Native.Nat.{ℕ}
-use native.Mathlib.Omega.{arith}
-use mathlib.Core.Bool.{Bool, true, false, cond}
-use mathlib.Core.List.{List, [], _∷_}
+use mathlib.Core.Bool.{true}
+use mathlib.Core.List.{List}
 use mathlib.Core.Logic.{_≢_}
-use mathlib.Core.Path.{_≡_, refl, sym, ap, ap₂, subst, _∙_}
-use lib.ListN.{length}
-use lib.Dec.{eqb}
-use borrow.Author.Tests.{eq-eqb}
-use Rattle.rules.specs.State.{State, broken, frozen, fresh, sound}
-use Rattle.rules.specs.Calls.{Lent, wrongLength, damaged, holding, Left, asBefore, now, Outcome, EndOutcome, workAfter, load, force, base, reset, memory, symbols, undefined, end}
+use mathlib.Core.Path.{_≡_, refl, sym, ap, ap₂, _∙_}
+use Rattle.rules.specs.State.{State, broken, frozen, sound}
+use Rattle.rules.specs.Calls.{Lent, holding, Left, asBefore, now, load, force, base, reset, memory, symbols, undefined, end}
 use Rattle.rules.specs.History.{Call, loading, forcing, basing, resetting, askingHigh, listing, listingUndefined, ending, Reply, ofLoad, ofCall, ofMemory, ofSymbols, ofUndefined, ofEnd, workFits, replyTo, leftBy, stateAfter, called, calledAll}
 use Rattle.rules.specs.declared.answer.LoadAnswer.{LoadAnswer}
 use Rattle.rules.specs.declared.answer.CallAnswer.{CallAnswer}
@@ -20,7 +16,7 @@ use Rattle.rules.specs.declared.answer.EndAnswer.{EndAnswer}
 use Rattle.rules.proofs.TestLaws.{Every}
 use Rattle.rules.proofs.OrderLaws.{broken-until-reset, frozen-until-reset}
 use Rattle.rules.proofs.SoundCalls.{called-sound}
-use Rattle.state.specs.Layout.{size, soundCells, encode, decode, lent, cellsAfter}
+use Rattle.state.specs.Layout.{lent, cellsAfter}
 use Rattle.state.specs.Promise.{Called, LoadCalled, Ended}
 use Rattle.state.specs.Sequence.{cellsCalled, Replied, Run, stop, step}
 use Rattle.state.proofs.LentLaws.{held-encoded, held-sound, lent-encode}

@@ -9,7 +9,7 @@ use native.Mathlib.Omega.{arith}
 use borrow.Author.Tests.{eq-eqb, ne-eqb, leb-true}
 use lib.ListN.{length, getD, List·getD-map}
 use lib.Dec.{eqb, leb}
-use Rattle.rules.specs.State.{positionOf, undefinedOnly}
+use Rattle.rules.specs.State.{undefinedOnly}
 use Rattle.rules.specs.Image.{valueOf}
 use Rattle.state.specs.Layout.{valueCell, symbolIn, symbolsFrom, decode}
 use Rattle.state.specs.Good.{soundValue, Good}

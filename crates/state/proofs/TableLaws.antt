@@ -4,24 +4,23 @@ use mathlib.Core.Bool.{Bool, true, false, cond, _&&_}
 use mathlib.Core.List.{List, [], _∷_, map}
 use mathlib.Core.Logic.{_≢_}
 use mathlib.Core.Path.{_≡_, refl, sym, ap, subst, _∙_}
-use native.Mathlib.Decide.{ℕ-discrete}
 use native.Mathlib.Omega.{arith}
-use borrow.Author.Tests.{le-leb, lt-leb, lt-ltb, ltb-true, ltb-false}
-use lib.ListN.{length, getD, set, length-map, length-set}
+use borrow.Author.Tests.{le-leb, lt-leb, lt-ltb}
+use lib.ListN.{length, getD, set, length-map}
 use lib.Seq.{set-getD, getD-set-other}
-use lib.Dec.{leb, ltb}
+use lib.Dec.{leb}
 use Rattle.rules.specs.Text.{any}
-use Rattle.rules.specs.State.{Symbol, symbol, nameIs, positionOf, State}
+use Rattle.rules.specs.State.{Symbol, symbol, nameIs, State}
 use Rattle.rules.specs.Placing.{define, mention}
 use Rattle.rules.specs.Calls.{withSymbols}
 use Rattle.state.specs.Layout.{nameCell, valueCell, markCell, padded, header, names, values, texts, tags, encode, symbolIn, decode}
 use Rattle.state.specs.Good.{soundValue, Tidy, Good, Holds}
-use Rattle.state.specs.Table.{noSymbol, Position, NoneFrom, Joined, MentionedAt}
+use Rattle.state.specs.Table.{noSymbol, Position, Joined, MentionedAt}
 use Rattle.state.proofs.ListLaws.{put, length-put, map-put, set-padded}
 use Rattle.state.proofs.RegionLaws.{flat, set-name, set-value}
 use Rattle.state.proofs.LayoutLaws.{table-long, holds, good-holds, count-is, symbol-is, unused-value}
 use Rattle.state.proofs.BoolLaws.{both}
-use Rattle.state.proofs.JoinLaws.{position-most, position-there, name-at-place, define-put, mention-known, mention-new, put-tidy, at-place, at-no-place}
+use Rattle.state.proofs.JoinLaws.{define-put, mention-known, mention-new, put-tidy, at-place, at-no-place}
 
 -- ---- a symbol stored at a position of the table, or just behind it
 
@@ -183,42 +182,6 @@ module _ {cells : List ℕ} (g : Good cells) {x i : ℕ} (p : Position x (decode
         mentioned-there h
         (subst (λ (r : List ℕ). Joined (mention x t) (decode cells) true (set r 0 (i + 1))) (kept h)
         (as-mentioned true _ (put-behind 0 false refl h b)))
-
--- ---- a search from the last symbol to the first, in the words of the code
-
-module _ (cells : List ℕ) (x : ℕ) where
-  pub none-yet : NoneFrom cells x (getD cells 0 0)
-  none-yet j l h = absurd (let z : _≡_ {A = ℕ} 0 1 = omega arith in omega arith)
-
-  -- cell a has the name of symbol i, and it is another one
-  pub none-more : (i a k : ℕ) → a ≡ 4 + i → k ≡ i + 1 → getD cells a 0 ≢ x → NoneFrom cells x k → NoneFrom cells x i
-  none-more i a k e q n f j l h = elim (ℕ-discrete j i) [
-    | yes s ↦ λ w. n (ap (λ (m : ℕ). getD cells m 0) (omega (arith, s)) ∙ w)
-    | no s ↦ f j (omega arith) h
-  ]
-
-  module _ (g : Good cells) where
-    pub name-found : (i a : ℕ) → a ≡ 4 + i → i < getD cells 0 0 → getD cells a 0 ≡ x → Position x (decode cells .symbols) i
-    name-found i a q h e =
-        let few : i < length (decode cells .symbols) = omega (arith, count-is cells) in
-        let name : getD cells (4 + i) 0 ≡ x = ap (λ (m : ℕ). getD cells m 0) (sym q) ∙ e in
-        let there = position-there (decode cells .symbols) x i (g .tidy .different) few (ap (λ (s : Symbol). s .name) (symbol-is cells i h) ∙ name) in
-        record { most = omega arith; is = sym there }
-
-    pub name-none : NoneFrom cells x 0 → Position x (decode cells .symbols) (getD cells 0 0)
-    name-none f =
-        let most : positionOf x (decode cells .symbols) ≤ length (decode cells .symbols) = position-most x (decode cells .symbols) in
-        go (ltb (positionOf x (decode cells .symbols)) (length (decode cells .symbols))) refl most
-      where
-        go : (b : Bool) → ltb (positionOf x (decode cells .symbols)) (length (decode cells .symbols)) ≡ b → positionOf x (decode cells .symbols) ≤ length (decode cells .symbols) → Position x (decode cells .symbols) (getD cells 0 0)
-        go true e m =
-            let r : ℕ = positionOf x (decode cells .symbols) in
-            let h : r < length (decode cells .symbols) = ltb-true r (length (decode cells .symbols)) e in
-            let there : r < getD cells 0 0 = omega (arith, count-is cells) in
-            absurd (f r (omega arith) there (ap (λ (s : Symbol). s .name) (sym (symbol-is cells r there)) ∙ name-at-place x (decode cells .symbols) h))
-        go false e m =
-            let h = ltb-false (positionOf x (decode cells .symbols)) (length (decode cells .symbols)) e in
-            record { most = omega (arith, count-is cells); is = omega (arith, count-is cells) }
 
 -- ---- asking for a name
 

@@ -1,15 +1,13 @@
 -- How the functions on the table of symbols say what they did.
-use Prim.Native.Nat.{ℕ, _+_, _-_, _≤_, _<_}
+use Prim.Native.Nat.{ℕ, _+_, _-_, _≤_}
 use mathlib.Core.Bool.{Bool, false, cond, not, _&&_}
 use mathlib.Core.List.{List, [], _∷_}
-use mathlib.Core.Logic.{_≢_}
 use mathlib.Core.Path.{_≡_}
-use lib.ListN.{length, getD}
+use lib.ListN.{length}
 use lib.Dec.{eqb, leb, ltb}
 use Rattle.rules.specs.State.{Symbol, symbol, State, positionOf}
 use Rattle.rules.specs.Placing.{mention}
 use Rattle.rules.specs.Calls.{withSymbols, bit}
-use Rattle.state.specs.Layout.{namesAt}
 use Rattle.state.specs.Good.{Holds}
 use Rattle.state.specs.declared.table.Listed.{Listed}
 
@@ -17,10 +15,6 @@ use Rattle.state.specs.declared.table.Listed.{Listed}
 pub record Position (x : ℕ) (t : List Symbol) (r : ℕ) : Type 0 where
   pub most : r ≤ length t
   pub is : r ≡ positionOf x t
-
--- no symbol from position i on has the name x
-abbrev pub NoneFrom : List ℕ → ℕ → ℕ → Type 0
-NoneFrom cells x i = (j : ℕ) → i ≤ j → j < getD cells 0 0 → getD cells (namesAt + j) 0 ≢ x
 
 -- the table t takes the position of the state's, if it has room for it; the answer says whether it had
 pub record Joined (t : List Symbol) (s : State) (r : Bool) (after : List ℕ) : Type 0 where

@@ -1,113 +1,35 @@
-// The table of symbols.
+// The table of symbols, by position: nothing here looks for a name.
 use crate::layout::COUNT;
 use crate::layout::DEFINED;
 use crate::layout::NAMES;
 use crate::layout::VALUES;
 use rules::limits::MOST_SYMBOLS;
-ghost use Prim.Native.Nat.{_≤_, _<_};
+ghost use Prim.Native.Nat.{ℕ, _<_};
 ghost use mathlib.Core.Path.{_≡_};
 ghost use lib.ListN.{length, getD};
+ghost use Rattle.rules.specs.Limits.{mostSymbols};
 ghost use Rattle.rules.specs.State.{isDefined, isUndefined, undefinedOnly};
+ghost use Rattle.rules.specs.Lookup.{nameAt};
 ghost use Rattle.rules.specs.Image.{valueOf};
-ghost use Rattle.rules.specs.Placing.{define as defined-in, mention as mentioned-in};
+ghost use Rattle.rules.specs.Placing.{define as defined-in};
 ghost use Rattle.state.specs.Layout.{decode};
 ghost use Rattle.state.specs.Good.{Good};
-ghost use Rattle.state.specs.Table.{Position, NoneFrom, Joined, MentionedAt, listed, noSymbol, undefinedPosition};
+ghost use Rattle.state.specs.Table.{Position, Joined, MentionedAt, listed, noSymbol, undefinedPosition};
 
-// The position of a name that none of the symbols from `end` on has, the count of symbols where there is none.
-fn find_below(state: &[u64], name: u64, end: usize) -> usize
+// The name at a position; 0 where there is no symbol.
+pub fn name_at(state: &[u64], i: usize) -> u64
     requires { ⌜ Good (now state) ⌝ }
-    requires { ⌜ (end ≤ getD (now state) 0 0) × NoneFrom (now state) name end ⌝ }
-    ensures { λ r. ⌜ Position name (decode (now (state .entry)) .symbols) r ⌝ }
+    requires { ⌜ i < mostSymbols ⌝ }
+    ensures { λ r. ⌜ r ≡ nameAt (decode (now (state .entry)) .symbols) i ⌝ }
 {
-    let mut i = end;
-    while 0 < i {
-        i -= 1;
-        if state[NAMES + i] == name {
-            return i;
-        }
-    }
-    state[COUNT] as usize
+    state[NAMES + i]
 }
 
-// A symbol's position, the count of symbols where there is none. Every search of the table comes here: the last symbols are looked at
-// first, since a library is searched for those that were mentioned just before; and four names in one turn.
-pub fn find(state: &[u64], name: u64) -> usize
+// Is the name that stands at this position defined? It stands nowhere where the position is the count of symbols.
+pub fn is_defined_at(state: &[u64], i: usize) -> bool
     requires { ⌜ Good (now state) ⌝ }
-    ensures { λ r. ⌜ Position name (decode (now (state .entry)) .symbols) r ⌝ }
+    ensures { λ r. ⌜ ((x : ℕ) → Position x (decode (now (state .entry)) .symbols) i → r ≡ isDefined x (decode (now (state .entry)) .symbols)) ⌝ }
 {
-    let mut i = state[COUNT] as usize;
-    while 3 < i {
-        if state[i + 3] == name {
-            return i - 1;
-        }
-        if state[i + 2] == name {
-            return i - 2;
-        }
-        if state[i + 1] == name {
-            return i - 3;
-        }
-        if state[i] == name {
-            return i - 4;
-        }
-        i -= 4;
-    }
-    find_below(state, name, i)
-}
-
-// The same, with a guess that is looked at first. Any number will do as a guess: names differ, so where the name stands, there is
-// its position.
-fn find_by(state: &[u64], name: u64, guess: usize) -> usize
-    requires { ⌜ Good (now state) ⌝ }
-    ensures { λ r. ⌜ Position name (decode (now (state .entry)) .symbols) r ⌝ }
-{
-    let n = state[COUNT] as usize;
-    if n <= guess {
-        return find(state, name);
-    }
-    if state[NAMES + guess] == name {
-        return guess;
-    }
-    find(state, name)
-}
-
-const FEW: usize = 8;
-
-// How many of the table's names are worth a guess, where so many names are to be found: making them costs as much as finding a few.
-fn worth_guessing(state: &[u64], names: usize) -> usize
-    requires { ⌜ Good (now state) ⌝ }
-    ensures { λ r. ⌜ r ≤ length (decode (now (state .entry)) .symbols) ⌝ }
-{
-    if names < FEW {
-        return 0;
-    }
-    state[COUNT] as usize
-}
-
-// A name is guessed by its remainder.
-pub const REMAINDERS: u64 = 509;
-
-pub const GUESSES: usize = 512;
-
-// Guesses: by the remainder of a name, the position of one with that remainder.
-pub fn guesses(state: &[u64], names: usize) -> [u16; GUESSES]
-    requires { ⌜ Good (now state) ⌝ }
-{
-    let n = worth_guessing(state, names);
-    let mut positions = [0u16; GUESSES];
-    let mut i = 0;
-    while i < n {
-        positions[(state[NAMES + i] % REMAINDERS) as usize] = i as u16;
-        i += 1;
-    }
-    positions
-}
-
-pub fn is_defined(state: &[u64], name: u64) -> bool
-    requires { ⌜ Good (now state) ⌝ }
-    ensures { λ r. ⌜ r ≡ isDefined name (decode (now (state .entry)) .symbols) ⌝ }
-{
-    let i = find(state, name);
     let n = state[COUNT] as usize;
     if i < n {
         return state[VALUES + i] != 0;
@@ -115,11 +37,11 @@ pub fn is_defined(state: &[u64], name: u64) -> bool
     false
 }
 
-pub fn is_undefined(state: &[u64], name: u64) -> bool
+// Is it undefined?
+pub fn is_undefined_at(state: &[u64], i: usize) -> bool
     requires { ⌜ Good (now state) ⌝ }
-    ensures { λ r. ⌜ r ≡ isUndefined name (decode (now (state .entry)) .symbols) ⌝ }
+    ensures { λ r. ⌜ ((x : ℕ) → Position x (decode (now (state .entry)) .symbols) i → r ≡ isUndefined x (decode (now (state .entry)) .symbols)) ⌝ }
 {
-    let i = find(state, name);
     let n = state[COUNT] as usize;
     if i < n {
         return state[VALUES + i] == 0;
@@ -127,12 +49,13 @@ pub fn is_undefined(state: &[u64], name: u64) -> bool
     false
 }
 
-// An entry gives its symbol a value. Nothing changes, and the answer is false, where the symbol is new and the table full.
-pub fn define(state: &mut [u64], name: u64, value: u16) -> bool
+// An entry gives its symbol a value, at the position of its name. Nothing changes, and the answer is false, where the symbol is new
+// and the table full.
+pub fn define_at(state: &mut [u64], i: usize, name: u64, value: u16) -> bool
     requires { ⌜ Good (now state) ⌝ }
+    requires { ⌜ Position name (decode (now state) .symbols) i ⌝ }
     ensures { λ r. ⌜ Joined (defined-in name value (decode (now (state .entry)) .symbols)) (decode (now (state .entry))) r (now (state .exit)) ⌝ }
 {
-    let i = find(state, name);
     let n = state[COUNT] as usize;
     if i == MOST_SYMBOLS {
         return false;
@@ -146,13 +69,13 @@ pub fn define(state: &mut [u64], name: u64, value: u16) -> bool
     true
 }
 
-// An external joins the table undefined, if it is new. A guess is a position where it may stand. The answer is its position;
-// MOST_SYMBOLS, and nothing changes, where the table is full.
-pub fn mention_at(state: &mut [u64], name: u64, guess: usize) -> usize
+// An external joins the table undefined, if it is new; `at` is the position of its name. The answer is its position; MOST_SYMBOLS,
+// and nothing changes, where the table is full.
+pub fn mention_at(state: &mut [u64], at: usize, name: u64) -> usize
     requires { ⌜ Good (now state) ⌝ }
+    requires { ⌜ Position name (decode (now state) .symbols) at ⌝ }
     ensures { λ r. ⌜ MentionedAt name (decode (now (state .entry))) r (now (state .exit)) ⌝ }
 {
-    let at = find_by(state, name, guess);
     let n = state[COUNT] as usize;
     if at < n {
         return at;
@@ -163,14 +86,6 @@ pub fn mention_at(state: &mut [u64], name: u64, guess: usize) -> usize
     state[NAMES + at] = name;
     state[COUNT] = at as u64 + 1;
     at
-}
-
-// The same, where only the room counts.
-pub fn mention(state: &mut [u64], name: u64) -> bool
-    requires { ⌜ Good (now state) ⌝ }
-    ensures { λ r. ⌜ Joined (mentioned-in name (decode (now (state .entry)) .symbols)) (decode (now (state .entry))) r (now (state .exit)) ⌝ }
-{
-    mention_at(state, name, 0) < MOST_SYMBOLS
 }
 
 // A symbol as the listings tell it.

@@ -1,6 +1,9 @@
-// The walk over what a file holds: the rows in order, free modules placed, sections tested and searched.
+// The walk over what a file holds: the rows in order, free modules placed, sections tested and searched. The order of the table's names
+// is made before the first row, and every row keeps it up.
 use index::SIZE;
 use index::repeats;
+use order::ROOM;
+use order::make;
 use placing::place_row;
 use rules::answer::DONE;
 use rules::answer::DUPLICATE;
@@ -21,6 +24,7 @@ ghost use Rattle.rules.proofs.TestLaws.{Every};
 ghost use Rattle.rules.proofs.ReadingLaws.{ModuleSound, ItemSound};
 ghost use Rattle.tables.specs.Tables.{mostCells, lineIn, moduleIn, modulesIn, sectionIn, itemsIn};
 ghost use Rattle.state.specs.Good.{Good};
+ghost use Rattle.order.specs.Order.{Ordered};
 ghost use Rattle.index.specs.Index.{size};
 ghost use Rattle.search.specs.Searching.{SectionSound};
 ghost use Rattle.walking.specs.Walking.{mostRows, sectionRounds, walkRounds, unwalked, rowStep, RowSound, TestedSection, Indexable, Known, Advances};
@@ -38,7 +42,7 @@ fn test_section(
     row: usize,
     section: Section,
     refusal: Refusal,
-    index: &mut [u64],
+    index: &mut [u16],
 ) -> Refusal
     requires { ⌜ row < mostRows ⌝ }
     requires { ⌜ SectionSound (now parts) (now rows) section ⌝ }
@@ -63,19 +67,20 @@ fn walk_section(
     rows: &[u64],
     row: usize,
     far: WalkSoFar,
-    index: &mut [u64],
+    index: &mut [u16],
+    order: &mut [u8],
     state: &mut [u64],
 ) -> WalkSoFar
     requires { ⌜ (row < mostRows) × (far .rounds ≤ walkRounds) ⌝ }
     requires { ⌜ (length (now parts) ≤ mostCells) × (length (now index) ≡ size) ⌝ }
     requires { ⌜ ItemSound (sectionIn (now parts) (now rows) row) ⌝ }
-    requires { ⌜ Good (now state) ⌝ }
-    ensures { λ r. ⌜ Advances (λ p. walkItem p (sectionIn (now (parts .entry)) (now (rows .entry)) row)) sectionRounds far (now (state .entry)) r (now (state .exit)) × (length (now (index .exit)) ≡ size) ⌝ }
+    requires { ⌜ Good (now state) × Ordered (now state) (now order) ⌝ }
+    ensures { λ r. ⌜ Advances (λ p. walkItem p (sectionIn (now (parts .entry)) (now (rows .entry)) row)) sectionRounds far (now (state .entry)) r (now (state .exit)) × (length (now (index .exit)) ≡ size) × Ordered (now (state .exit)) (now (order .exit)) ⌝ }
 {
     let section = section_of(rows, row);
     let refusal = far.refusal;
     let tested = test_section(parts, rows, row, section, refusal, index);
-    let found = search(parts, rows, section, tested, index, state);
+    let found = search(parts, rows, section, tested, index, order, state);
     let after = found.refusal;
     WalkSoFar {
         refusal: after,
@@ -89,15 +94,16 @@ fn walk_free(
     rows: &[u64],
     row: usize,
     far: WalkSoFar,
+    order: &mut [u8],
     state: &mut [u64],
 ) -> WalkSoFar
     requires { ⌜ row < mostRows ⌝ }
     requires { ⌜ ModuleSound (moduleIn (now parts) (now rows) row) ⌝ }
-    requires { ⌜ Good (now state) ⌝ }
-    ensures { λ r. ⌜ Advances (λ p. walkItem p (free (moduleIn (now (parts .entry)) (now (rows .entry)) row))) sectionRounds far (now (state .entry)) r (now (state .exit)) ⌝ }
+    requires { ⌜ Good (now state) × Ordered (now state) (now order) ⌝ }
+    ensures { λ r. ⌜ Advances (λ p. walkItem p (free (moduleIn (now (parts .entry)) (now (rows .entry)) row))) sectionRounds far (now (state .entry)) r (now (state .exit)) × Ordered (now (state .exit)) (now (order .exit)) ⌝ }
 {
     let refusal = far.refusal;
-    let after = place_row(parts, rows, row, refusal, state);
+    let after = place_row(parts, rows, row, refusal, order, state);
     WalkSoFar {
         refusal: after,
         rounds: far.rounds,
@@ -110,21 +116,22 @@ fn walk_row(
     rows: &[u64],
     row: usize,
     far: WalkSoFar,
-    index: &mut [u64],
+    index: &mut [u16],
+    order: &mut [u8],
     state: &mut [u64],
 ) -> WalkSoFar
     requires { ⌜ (row < mostRows) × (far .rounds ≤ walkRounds) ⌝ }
     requires { ⌜ (length (now parts) ≤ mostCells) × (length (now index) ≡ size) ⌝ }
     requires { ⌜ RowSound (now parts) (now rows) row ⌝ }
-    requires { ⌜ Good (now state) ⌝ }
-    ensures { λ r. ⌜ Advances (rowStep (now (parts .entry)) (now (rows .entry)) row) sectionRounds far (now (state .entry)) r (now (state .exit)) × (length (now (index .exit)) ≡ size) ⌝ }
+    requires { ⌜ Good (now state) × Ordered (now state) (now order) ⌝ }
+    ensures { λ r. ⌜ Advances (rowStep (now (parts .entry)) (now (rows .entry)) row) sectionRounds far (now (state .entry)) r (now (state .exit)) × (length (now (index .exit)) ≡ size) × Ordered (now (state .exit)) (now (order .exit)) ⌝ }
 {
     let kind = row_kind(rows, row);
     if kind == FREE {
-        return walk_free(parts, rows, row, far, state);
+        return walk_free(parts, rows, row, far, order, state);
     }
     if kind == SECTION {
-        return walk_section(parts, rows, row, far, index, state);
+        return walk_section(parts, rows, row, far, index, order, state);
     }
     far
 }
@@ -136,7 +143,9 @@ pub fn walk(parts: &[u64], rows: &[u64], n: usize, state: &mut [u64]) -> WalkSoF
     requires { ⌜ Good (now state) ⌝ }
     ensures { λ r. ⌜ Advances (λ p. walkItems p (itemsIn (now (parts .entry)) (now (rows .entry)) n)) walkRounds unwalked (now (state .entry)) r (now (state .exit)) ⌝ }
 {
-    let mut index = [0u64; SIZE];
+    let mut order = [0u8; ROOM];
+    make(state, &mut order);
+    let mut index = [0u16; SIZE];
     let mut far = WalkSoFar {
         refusal: Refusal {
             number: DONE,
@@ -146,7 +155,7 @@ pub fn walk(parts: &[u64], rows: &[u64], n: usize, state: &mut [u64]) -> WalkSoF
     };
     let mut i = 0;
     while i < n {
-        far = walk_row(parts, rows, i, far, &mut index, state);
+        far = walk_row(parts, rows, i, far, &mut index, &mut order, state);
         i += 1;
     }
     far

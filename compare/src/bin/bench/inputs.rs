@@ -1,6 +1,10 @@
 //! What is timed: states and files, each in three sizes.
 
+use std::fmt::Display;
+
 use compare::calls::Calls;
+use compare::differ::names::{count_of_length, of_remainder, packed_at};
+use compare::differ::rng::Rng;
 use compare::lent::Lent;
 use compare::linker::LONGEST_FILE;
 use compare::memory::*;
@@ -38,6 +42,9 @@ pub const ROWS: &[Row] = &[
     Row { label: "LOAD of a section of entries, table full", input: entries_full_table },
     Row { label: "LOAD of a chain beside unwanted entries", input: chain_beside_entries },
     Row { label: "LOAD of one-letter externals, table full", input: one_letter_externals },
+    Row { label: "LOAD of old externals, table of 250", input: old_externals },
+    Row { label: "LOAD of new externals, table of 250", input: new_externals },
+    Row { label: "LOAD of a section of one remainder", input: entries_of_one_remainder },
     Row { label: "LOAD refused at its last line (6)", input: refused_by_reading },
     Row { label: "LOAD refused at its last module (13)", input: refused_by_walk },
     Row { label: "END", input: end },
@@ -127,6 +134,56 @@ fn one_letter_externals(divisor: usize) -> Input {
     Input { size, state, job: Job::Load(file.into()), expected: 0 }
 }
 
+/// Free modules of 64 externals that are in the table of 250: in each module others, and in no order.
+fn old_externals(divisor: usize) -> Input {
+    let mut rng = Rng::new(64);
+    let mut names = scattered_names(SCATTERED);
+    externals_beside_250(divisor, || {
+        rng.shuffle(&mut names);
+        names[..64].to_vec()
+    })
+}
+
+/// The same with externals that are not in the table of 250. Six have room there, so they are mentioned again and again.
+fn new_externals(divisor: usize) -> Input {
+    let mut rng = Rng::new(64);
+    let names = scattered_names(256);
+    externals_beside_250(divisor, || (0..64).map(|_| *rng.pick(&names[SCATTERED..])).collect())
+}
+
+/// Modules of the externals that are handed out for each, until the file is full. The table has 250 symbols at every size.
+fn externals_beside_250(divisor: usize, mut externals: impl FnMut() -> Vec<Name>) -> Input {
+    let length = LONGEST_FILE / divisor;
+    let (mut file, mut count) = (String::new(), 0);
+    loop {
+        let records: String = externals().iter().map(|name| format!("{name}\n")).collect();
+        let module = format!("3 ***TITLE\nA\n5 100 ***EXT\n{records}1 ***END\nA\n");
+        if file.len() + module.len() > length {
+            break;
+        }
+        file += &module;
+        count += 64;
+    }
+    let size = format!("{SCATTERED} symbols, {count} externals, {length} bytes");
+    let state = state_of(&scattered_names(SCATTERED));
+    Input { size, state, job: Job::Load(padded(file, length).into()), expected: 0 }
+}
+
+/// A library of as many entries as the file holds whose packed names have the same remainder by 2,039, in rising order, which
+/// is the worst for chains and for trees that are not kept level. Nobody wants any of them.
+fn entries_of_one_remainder(divisor: usize) -> Input {
+    let length = LONGEST_FILE / divisor - 18;
+    // More names than fit; a name of fewer characters makes a shorter record, so the shortest ones are taken.
+    let shortest: Vec<Name> = of_remainder(0).take(length / 10).collect();
+    let fit = entry_modules(&shortest, length).1;
+    let mut names = shortest[..fit].to_vec();
+    names.sort_unstable();
+    let (section, count) = entry_modules(&names, length);
+    let file = format!("6 ***LSB\n{section}7 ***LEB\n");
+    let size = format!("{count} entries, {} bytes", file.len());
+    Input { size, state: fresh(), job: Job::Load(file.into()), expected: 0 }
+}
+
 fn refused_by_reading(divisor: usize) -> Input {
     let mut file = modules_file(LONGEST_FILE / divisor - 8).trim_end().to_string();
     file = padded(file + ".", LONGEST_FILE / divisor);
@@ -171,13 +228,28 @@ fn full_state(divisor: usize) -> Vec<u64> {
 
 /// A state of undefined symbols, under names that no file here has.
 fn table_of(symbols: usize) -> Vec<u64> {
+    let name = |i| Name::parse(format!("QQ{i:04}").as_bytes()).expect("a legal name");
+    state_of(&(0..symbols).map(name).collect::<Vec<_>>())
+}
+
+/// A state of undefined symbols.
+fn state_of(names: &[Name]) -> Vec<u64> {
     let mut state = fresh();
-    state[COUNT] = symbols as u64;
-    for i in 0..symbols {
-        let name = Name::parse(format!("QQ{i:04}").as_bytes()).expect("a legal name");
-        state[NAMES.start + i] = name.packed();
+    state[COUNT] = names.len() as u64;
+    for (cell, name) in state[NAMES].iter_mut().zip(names) {
+        *cell = name.packed();
     }
     state
+}
+
+/// The symbols in the table of the rows that have them in no order.
+const SCATTERED: usize = 250;
+
+/// Names of six characters, from all over the alphabet and in no order; the same ones in front, however many are asked for.
+fn scattered_names(count: usize) -> Vec<Name> {
+    let mut rng = Rng::new(6);
+    let mut number = || packed_at(6, rng.next() % count_of_length(6));
+    (0..count).map(|_| Name::from_packed(number()).expect("a legal name")).collect()
 }
 
 fn name(i: usize) -> String {
@@ -218,21 +290,25 @@ fn modules_file(length: usize) -> String {
     padded(file, length)
 }
 
-/// Modules of up to 64 entries, all different, in at most so many bytes; and how many entries there are.
+/// Modules of 64 entries, all different, in at most so many bytes; and how many entries there are.
 fn unwanted_modules(bytes: usize) -> (String, usize) {
-    let names = short_names();
+    entry_modules(&short_names(), bytes)
+}
+
+/// Modules of 64 entries each, as many as the bytes and the names suffice for; and how many entries there are.
+fn entry_modules(names: &[impl Display], bytes: usize) -> (String, usize) {
     let mut modules = String::new();
     let mut used = 0;
-    loop {
-        let names = &names[used..used + 64];
+    for names in names.chunks_exact(64) {
         let records: String = names.iter().map(|name| format!("{name} 0 0\n")).collect();
         let next = format!("3 ***TITLE\nA\n4 100 ***ENTRY\n{records}1 ***END\nA\n");
         if modules.len() + next.len() > bytes {
-            return (modules, used);
+            break;
         }
         modules += &next;
         used += 64;
     }
+    (modules, used)
 }
 
 /// Names by length, none of them one of a chain.

@@ -1,6 +1,7 @@
 //! Cases at each limit of document 01 and one past it. The answers stand beside them, taken from the paper and not from a
 //! linker.
 
+mod lookups;
 mod memory;
 mod paper;
 mod placing;
@@ -11,7 +12,7 @@ use crate::memory::fresh;
 
 /// Every case.
 pub fn all() -> Vec<Case> {
-    [paper::all(), reading::all(), placing::all(), memory::all()].concat()
+    [paper::all(), reading::all(), placing::all(), lookups::all(), memory::all()].concat()
 }
 
 /// A module around some blocks.

@@ -1,6 +1,6 @@
 use Prim.Native.Nat.{_+_, _-_, _/_, _<_, _≤_}
 use native.Mathlib.Omega.{arith}
-use mathlib.Core.Path.{_≡_, refl, sym, ap, subst, _∙_}
+use mathlib.Core.Path.{refl, sym, subst, _∙_}
 use lib.ListN.{length}
 use Rattle.rules.proofs.BoolLaws.{never}
 use Rattle.tables.specs.Tables.{startIn, endIn, cellsIn}

@@ -9,7 +9,7 @@ use Rattle.state.specs.Layout.{decode}
 use Rattle.state.specs.Good.{Good}
 use Rattle.tables.specs.Heads.{partsFrom}
 use Rattle.placing.specs.Effects.{Laid, Laying}
-use Rattle.placing.proofs.WordLaws.{lay-skip, lay-clash, lay-put, lay-done}
+use Rattle.placing.proofs.WordLaws.{lay-table, lay-skip, lay-clash, lay-put, lay-done}
 use Rattle.placing.proofs.words.lay.Statement.{statement}
 use Rattle.placing.proofs.words.lay.Tie as tie
 
@@ -59,7 +59,7 @@ same-length : tie.Need-same-length Inv-loop μ-loop
 same-length c = c .before .before .before .before .before .before .before .before .before .loop .inv .3
 
 returns : tie.Need-returns Inv-loop μ-loop
-returns c = let l = c .before .before .before .before .before .before .before .before .before .loop in let a = c .before .before .before .before .before .before .before .before .before .before .before .before .args in record { clash-is = lay-clash (a .base) (codeIn (partsFrom (a .parts .now) 0)) (decode (a .state .now)) (a .parts .now) (l .i) (omega arith) (decode (l .state)) (sym (c .before .before .before .before .before .is-word .ensures) ∙ c .before .before .before .before .if1 .taken) (l .inv .4) (c .before .before .before .address .result) (c .before .before .before .address .ensures) (c .before .is-placed .result) (c .before .is-placed .ensures) (c .if2 .taken); good = l .inv .2; done = λ e. never refl e }
+returns c = let l = c .before .before .before .before .before .before .before .before .before .loop in let a = c .before .before .before .before .before .before .before .before .before .before .before .before .args in record { clash-is = lay-clash (a .base) (codeIn (partsFrom (a .parts .now) 0)) (decode (a .state .now)) (a .parts .now) (l .i) (omega arith) (decode (l .state)) (sym (c .before .before .before .before .before .is-word .ensures) ∙ c .before .before .before .before .if1 .taken) (l .inv .4) (c .before .before .before .address .result) (c .before .before .before .address .ensures) (c .before .is-placed .result) (c .before .is-placed .ensures) (c .if2 .taken); good = l .inv .2; table-is = lay-table (l .inv .4); done = λ e. never refl e }
 
 put-plain-requires : tie.Need-put-plain-requires Inv-loop μ-loop
 put-plain-requires c κs = c .before .before .before .before .before .before .before .before .before .before .loop .inv .2

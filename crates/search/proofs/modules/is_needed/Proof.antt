@@ -10,10 +10,10 @@ use Rattle.search.proofs.modules.is_needed.Statement.{statement}
 use Rattle.search.proofs.modules.is_needed.Tie as tie
 
 abbrev Inv-loop : tie.InvT-loop
-Inv-loop parts state n i₀ i = (i ≤ n) × (n ≡ length parts) × (neededFrom (decode state) (partsFrom parts i) ≡ neededFrom (decode state) (partsFrom parts 0))
+Inv-loop parts order state n i₀ i = (i ≤ n) × (n ≡ length parts) × (neededFrom (decode state) (partsFrom parts i) ≡ neededFrom (decode state) (partsFrom parts 0))
 
 abbrev μ-loop : tie.MeasureT-loop
-μ-loop parts state n i₀ i = n - i
+μ-loop parts order state n i₀ i = n - i
 
 loop-holds : tie.Need-loop-holds Inv-loop μ-loop
 loop-holds c = (omega arith, refl, refl)
@@ -37,10 +37,10 @@ shared-slice-read-is-needed-entry-2 : tie.Need-shared-slice-read-is-needed-entry
 shared-slice-read-is-needed-entry-2 c = omega arith
 
 is-needed-entry-requires : tie.Need-is-needed-entry-requires Inv-loop μ-loop
-is-needed-entry-requires c κs = c .before .before .before .before .before .before .pre
+is-needed-entry-requires c κs = c .before .before .before .before .before .before .before .pre
 
 returns : tie.Need-returns Inv-loop μ-loop
-returns c = let l = c .before .before .before .before .before .loop in let a = c .before .before .before .before .before .before .before .before .args in needed-turn (decode (a .state .now)) (a .parts .now) (l .i) (omega arith) (l .inv .2) (c .before .is-needed-entry .ensures) (c .if1 .taken) ∙ sym (needed-is (decode (a .state .now)) 0 (partsFrom (a .parts .now) 0))
+returns c = let l = c .before .before .before .before .before .loop in let a = c .before .before .before .before .before .before .before .before .before .args in needed-turn (decode (a .state .now)) (a .parts .now) (l .i) (omega arith) (l .inv .2) (c .before .is-needed-entry .ensures) (c .if1 .taken) ∙ sym (needed-is (decode (a .state .now)) 0 (partsFrom (a .parts .now) 0))
 
 add-i : tie.Need-add-i Inv-loop μ-loop
 add-i c = omega arith
@@ -49,10 +49,10 @@ loop-less : tie.Need-loop-less Inv-loop μ-loop
 loop-less c = omega arith
 
 loop-again : tie.Need-loop-again Inv-loop μ-loop
-loop-again c = let l = c .before .before .before .before .before .loop in let a = c .before .before .before .before .before .before .before .before .args in (omega arith, omega arith, needed-turn (decode (a .state .now)) (a .parts .now) (l .i) (omega arith) (l .inv .2) (c .before .is-needed-entry .ensures) (c .if1 .left))
+loop-again c = let l = c .before .before .before .before .before .loop in let a = c .before .before .before .before .before .before .before .before .before .args in (omega arith, omega arith, needed-turn (decode (a .state .now)) (a .parts .now) (l .i) (omega arith) (l .inv .2) (c .before .is-needed-entry .ensures) (c .if1 .left))
 
 returns-2 : tie.Need-returns-2 Inv-loop μ-loop
-returns-2 c = let l = c .before .loop in let a = c .before .before .before .before .args in sym (needed-done (decode (a .state .now)) (a .parts .now) (l .i) (omega arith)) ∙ l .inv .2 ∙ sym (needed-is (decode (a .state .now)) 0 (partsFrom (a .parts .now) 0))
+returns-2 c = let l = c .before .loop in let a = c .before .before .before .before .before .args in sym (needed-done (decode (a .state .now)) (a .parts .now) (l .i) (omega arith)) ∙ l .inv .2 ∙ sym (needed-is (decode (a .state .now)) 0 (partsFrom (a .parts .now) 0))
 
 pub is-needed-spec : {M : Type 1} → statement M
 is-needed-spec =

@@ -1,0 +1,181 @@
+//! Names that are hard to look for: in an order, close to each other, and of one remainder.
+
+use std::collections::BTreeSet;
+
+use super::author::random_name;
+use super::rng::Rng;
+use crate::name::Name;
+
+/// The verified linker parts the entries of a section into so many slots, by the remainder of the packed name.
+pub const SLOTS: u64 = 2039;
+
+/// In the order of their packed bytes.
+const CHARACTERS: &[u8; 36] = b"0123456789ABCDEFGHIJKLMNOPQRSTUVWXYZ";
+const LONGEST: u32 = 6;
+
+/// How many names of this length there are.
+pub fn count_of_length(length: u32) -> u64 {
+    26 * 36u64.pow(length - 1)
+}
+
+/// The packed name of this length that has so many before it.
+pub fn packed_at(length: u32, mut number: u64) -> u64 {
+    let mut packed = 0;
+    for place in (1..length).rev() {
+        packed |= u64::from(CHARACTERS[(number % 36) as usize]) << shift(place);
+        number /= 36;
+    }
+    packed | (u64::from(b'A') + number) << shift(0)
+}
+
+fn shift(place: u32) -> u32 {
+    8 * (LONGEST - 1 - place)
+}
+
+/// The names whose packed form has this remainder by `SLOTS`, by length and then rising. The last character is worked out
+/// from those before it, so that thousands of names take some milliseconds.
+pub fn of_remainder(remainder: u64) -> impl Iterator<Item = Name> {
+    (1..=LONGEST).flat_map(move |length| {
+        let last = last_characters(length);
+        let fronts = if length == 1 { 1 } else { count_of_length(length - 1) };
+        (0..fronts).filter_map(move |number| {
+            let front = if length == 1 { 0 } else { packed_at(length - 1, number) };
+            let wanted = (remainder + SLOTS - front % SLOTS) % SLOTS;
+            Name::from_packed(front | last[wanted as usize]?)
+        })
+    })
+}
+
+/// What a last character adds to a name of this length, by its remainder: no two characters have the same one.
+fn last_characters(length: u32) -> Vec<Option<u64>> {
+    let mut last = vec![None; SLOTS as usize];
+    for &character in CHARACTERS.iter().filter(|character| length > 1 || character.is_ascii_uppercase()) {
+        let added = u64::from(character) << shift(length - 1);
+        last[(added % SLOTS) as usize] = Some(added);
+    }
+    last
+}
+
+/// The order in which names are met.
+#[derive(Clone, Copy, Debug, PartialEq, Eq)]
+pub enum Order {
+    Rising,
+    Falling,
+    Scattered,
+}
+
+impl Order {
+    pub const ALL: [Order; 3] = [Order::Rising, Order::Falling, Order::Scattered];
+
+    /// Brings names into the order.
+    pub fn arrange(self, names: &mut [String], rng: &mut Rng) {
+        names.sort();
+        match self {
+            Order::Rising => {}
+            Order::Falling => names.reverse(),
+            Order::Scattered => rng.shuffle(names),
+        }
+    }
+
+    /// The order that packed names have: scattered if at least a quarter of the steps goes up, and a quarter down.
+    pub fn of(names: &[u64]) -> Option<Order> {
+        let steps = names.len().saturating_sub(1);
+        match names.windows(2).filter(|pair| pair[0] < pair[1]).count() {
+            up if up == steps => Some(Order::Rising),
+            0 => Some(Order::Falling),
+            up if 4 * up >= steps && 4 * (steps - up) >= steps => Some(Order::Scattered),
+            _ => None,
+        }
+    }
+}
+
+/// Different names, many of which part from another one in their last character or their length alone.
+pub fn close_names(count: usize, rng: &mut Rng) -> Vec<String> {
+    let mut seen = BTreeSet::new();
+    let mut names: Vec<String> = Vec::new();
+    while names.len() < count {
+        let mut name = if names.is_empty() || rng.percent(40) { random_name(rng) } else { rng.pick(&names).clone() };
+        match rng.below(4) {
+            0 => name.push(char::from(*rng.pick(b"0A9Z"))),
+            1 => name.push(char::from(*rng.pick(CHARACTERS))),
+            2 => drop(name.pop()),
+            _ => {
+                name.pop();
+                name.push(char::from(*rng.pick(CHARACTERS)));
+            }
+        }
+        if Name::parse(name.as_bytes()).is_some() && seen.insert(name.clone()) {
+            names.push(name);
+        }
+    }
+    names
+}
+
+/// How two different names part, if they are close: in the last character alone, or in the length alone.
+pub fn closeness(one: u64, other: u64) -> Option<Closeness> {
+    let text = |packed: u64| packed.to_be_bytes().into_iter().filter(|&byte| byte != 0).collect::<Vec<u8>>();
+    let (one, other) = (text(one), text(other));
+    match (one.as_slice(), other.as_slice()) {
+        ([one @ .., _], [other @ .., _]) if one == other => Some(Closeness::LastCharacter),
+        (one, other) if one.starts_with(other) || other.starts_with(one) => Some(Closeness::Length),
+        _ => None,
+    }
+}
+
+#[derive(Clone, Copy, Debug, PartialEq, Eq)]
+pub enum Closeness {
+    LastCharacter,
+    Length,
+}
+
+#[cfg(test)]
+mod tests {
+    use super::*;
+
+    fn packed(name: &str) -> u64 {
+        Name::parse(name.as_bytes()).expect("a legal name").packed()
+    }
+
+    #[test]
+    fn names_by_number() {
+        for (length, number, name) in [(1, 0, "A"), (1, 25, "Z"), (2, 0, "A0"), (2, 35, "AZ"), (2, 36, "B0")] {
+            assert_eq!(packed_at(length, number), packed(name));
+        }
+        assert_eq!(packed_at(6, count_of_length(6) - 1), packed("ZZZZZZ"));
+    }
+
+    #[test]
+    fn names_of_one_remainder() {
+        for remainder in [0, 1, packed("N0") % SLOTS, SLOTS - 1] {
+            let names: Vec<Name> = of_remainder(remainder).take(700).collect();
+            assert!(names.iter().all(|name| name.packed() % SLOTS == remainder));
+            let by_length: BTreeSet<(usize, Name)> = names.iter().map(|name| (name.to_string().len(), *name)).collect();
+            assert!(by_length.into_iter().map(|(_, name)| name).eq(names));
+        }
+        assert!(of_remainder(packed("A") % SLOTS).any(|name| name.packed() == packed("A")));
+        // None is left out: every name of up to three characters has one of the remainders.
+        let short: usize =
+            (0..SLOTS).map(|each| of_remainder(each).take_while(|name| name.packed() << 40 == 0).count()).sum();
+        assert_eq!(short, 26 + 26 * 36 + 26 * 36 * 36);
+    }
+
+    #[test]
+    fn orders() {
+        let mut rng = Rng::new(1);
+        let mut names = close_names(100, &mut rng);
+        for order in Order::ALL {
+            order.arrange(&mut names, &mut rng);
+            assert_eq!(Order::of(&names.iter().map(|name| packed(name)).collect::<Vec<_>>()), Some(order));
+        }
+    }
+
+    #[test]
+    fn close_and_not() {
+        assert_eq!(closeness(packed("AB"), packed("AC")), Some(Closeness::LastCharacter));
+        assert_eq!(closeness(packed("A"), packed("B")), Some(Closeness::LastCharacter));
+        assert_eq!(closeness(packed("A"), packed("A0")), Some(Closeness::Length));
+        assert_eq!(closeness(packed("ABCDEF"), packed("AB")), Some(Closeness::Length));
+        assert_eq!(closeness(packed("AB"), packed("BB")), None);
+        assert_eq!(closeness(packed("AB"), packed("ACB")), None);
+    }
+}

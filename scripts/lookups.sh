@@ -1,0 +1,49 @@
+#!/usr/bin/env bash
+# Shows that in a load every lookup of a name in the table is `look_up`'s of crate order, which reads at most nine of its names
+# (docs/PROMISES.md, 02 r2 2). It lists each place in the crates of a load that reads a name of the table; there are three, and the
+# first alone is a search. Anything else, and the status is 1. It compares texts and takes no time.
+#
+#   scripts/lookups.sh
+set -eu
+export LC_ALL=C
+cd "$(dirname "$0")/.."
+
+# The crates that a crate uses, and those that these use: for each a line.
+used_by() {
+  local crate
+  for crate in $(sed -n "s/^$1: *//p" crates.txt); do
+    echo "$crate"
+    used_by "$crate"
+  done
+}
+crates=$({ echo loading; used_by loading; } | sort -u)
+
+# Where a name of the table is read: crate, function, what reads it. Crate state holds the layout, and tests of soundness come ahead
+# of a load; the other crates have no cell of the state by its number.
+places() {
+  local crate
+  for crate in $crates; do
+    for file in crates/"$crate"/src/*.rt; do
+      awk -v crate="$crate" '
+        /^(pub )?fn / { split($0, word, /fn |\(/); name = word[2]; next }
+        /^ *(\/\/|use |ghost |requires |ensures )/ { next }
+        crate != "state" && /[^_a-z](name_at|symbol_at)\(/ {
+          print crate, name, (/symbol_at/ ? "symbol_at" : "name_at")
+        }
+        crate != "state" && crate != "soundness" && /[^_a-z]state\[/ { print crate, name, "a cell" }
+        crate == "state" && /([=!<>]=|<|>) name[^_a-z]|[^_a-z]name ([=!<>]=|<|>)/ { print crate, name, "compares names" }' "$file"
+    done
+  done
+}
+
+found=$(places | sort)
+expected='order make name_at
+order seek name_at
+search mark_undefined symbol_at'
+if [ "$found" != "$expected" ] || grep -qx commands <<<"$crates"; then
+  echo "scripts/lookups.sh: the names of the table are read elsewhere than expected, or FORCE's search can be reached from a load:"
+  diff <(echo "$expected") <(echo "$found") || true
+  exit 1
+fi
+echo "A name of the table is read, in a load, by a turn of the search (order seek), as the order is made (order make), and of each"
+echo "undefined symbol that is looked for among a section's entries (search mark_undefined); nowhere else."
