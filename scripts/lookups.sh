@@ -1,7 +1,7 @@
 #!/usr/bin/env bash
 # Shows that in a load every lookup of a name in the table is `look_up`'s of crate order, which reads at most nine of its names
-# (docs/PROMISES.md, 02 r2 2). It lists each place in the crates of a load that reads a name of the table; there are three, and the
-# first alone is a search. Anything else, and the status is 1. It compares texts and takes no time.
+# (docs/PROMISES.md, 02 r2 2). It looks for each place in the crates of a load that reads a name of the table; there are four, and one
+# of them alone is a search. Anything else, and the status is 1. It compares texts and takes no time.
 #
 #   scripts/lookups.sh
 set -eu
@@ -37,7 +37,8 @@ places() {
 }
 
 found=$(places | sort)
-expected='order make name_at
+expected='order hint_all name_at
+order make name_at
 order seek name_at
 search mark_undefined symbol_at'
 if [ "$found" != "$expected" ] || grep -qx commands <<<"$crates"; then
@@ -45,5 +46,5 @@ if [ "$found" != "$expected" ] || grep -qx commands <<<"$crates"; then
   diff <(echo "$expected") <(echo "$found") || true
   exit 1
 fi
-echo "A name of the table is read, in a load, by a turn of the search (order seek), as the order is made (order make), and of each"
-echo "undefined symbol that is looked for among a section's entries (search mark_undefined); nowhere else."
+echo "A name of the table is read, in a load, by a turn of the search (order seek), as the order and its hints are made (order make,"
+echo "hint_all), and of each undefined symbol that is looked for among a section's entries (search mark_undefined); nowhere else."

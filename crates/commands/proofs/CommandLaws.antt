@@ -9,14 +9,14 @@ use mathlib.Core.Option.{none, some}
 use mathlib.Core.Path.{_≡_, refl, sym, ap, subst, _∙_}
 use native.Mathlib.Nat.{zero-add}
 use lib.ListN.{length, drop}
-use lib.Dec.{eqb, leb, ltb}
+use lib.Dec.{leb}
 use borrow.Author.Tests.{eq-eqb, ne-eqb, lt-ltb, le-ltb, le-leb, lt-leb, leb-true, leb-false}
 use Rattle.rules.specs.Text.{any, isName, packName, nameOf}
 use Rattle.rules.specs.State.{Symbol, State, state, Mark, unmarked, broken, frozen, fresh, marked, nameIs, isSymbol}
 use Rattle.rules.specs.Lookup.{nameAt}
 use Rattle.rules.specs.Placing.{mention}
 use Rattle.rules.specs.Image.{imageOf}
-use Rattle.rules.specs.Calls.{Lent, wrongLength, damaged, holding, now, asBefore, shutBy, Outcome, callAnswer, stopped, done, withSymbols, reset, baseState, base, forceState, force, EndOutcome, endAnswer, endStopped, endDone, isBroken, endState, end, overwritten}
+use Rattle.rules.specs.Calls.{Lent, wrongLength, damaged, holding, shutBy, Outcome, callAnswer, stopped, done, withSymbols, reset, baseState, base, forceState, force, EndOutcome, endAnswer, endStopped, endDone, isBroken, endState, end}
 use Rattle.rules.specs.declared.answer.CallAnswer.{CallAnswer}
 use Rattle.rules.specs.declared.answer.EndAnswer.{EndAnswer}
 use Rattle.state.specs.Layout.{size, lent, soundCells, encode, decode, markCell}

@@ -1,13 +1,12 @@
 -- The passes over the code words: each turn in the words of the code, and what they come to.
-use Prim.Native.Nat.{ℕ, zero, suc, _+_, _-_, _%_, _<_, _≤_}
+use Prim.Native.Nat.{ℕ, _+_, _-_, _<_, _≤_}
 use native.Mathlib.Omega.{arith}
 use mathlib.Core.Bool.{Bool, true, false, cond, _||_}
 use mathlib.Core.List.{List, [], _∷_, map}
-use mathlib.Core.Logic.{_≢_}
 use mathlib.Core.Path.{_≡_, refl, sym, ap, ap₂, subst, _∙_}
 use lib.ListN.{length, getD, set, List·getD-map}
 use lib.Dec.{eqb, ltb}
-use borrow.Author.Tests.{lt-ltb, le-ltb, ltb-false, eq-eqb, ne-eqb, eqb-false}
+use borrow.Author.Tests.{ltb-false, eqb-false}
 use Rattle.rules.specs.Text.{any}
 use Rattle.rules.specs.State.{Word, unplaced, plain, refers, isPlaced, State}
 use Rattle.rules.specs.Placing.{Code, codeIn}
@@ -22,7 +21,7 @@ use Rattle.tables.specs.Heads.{partsFrom, isWord, addressOf, argumentOf, isRefe
 use Rattle.placing.specs.Passes.{badCode, isBad}
 use Rattle.tables.proofs.HeadLaws.{parts-done, parts-next, part-cases, code-cons}
 use Rattle.placing.proofs.PassLaws.{bad-turn}
-use Rattle.placing.specs.Effects.{plainAll, laid, Laid, Laying, relink, linkAt, relinked, Linking}
+use Rattle.placing.specs.Effects.{plainAll, Laid, Laying, relink, linkAt, relinked, Linking}
 
 -- ---- what is placed is all that a clash looks at
 

@@ -3,7 +3,7 @@ use Prim.Native.Nat.{ℕ, zero, suc, _+_, _-_, _/_, _≤_, _<_}
 use mathlib.Core.Bool.{Bool, true, false, cond}
 use mathlib.Core.List.{List}
 use mathlib.Core.Logic.{_≢_, _⊎_, inl, inr}
-use mathlib.Core.Path.{_≡_, refl, sym, ap, ap₂, subst, _∙_}
+use mathlib.Core.Path.{_≡_, refl, sym, ap, subst, _∙_}
 use native.Mathlib.Omega.{arith}
 use borrow.Author.Tests.{eq-eqb, ne-eqb, lt-ltb, le-ltb, ltb-true, ltb-false}
 use lib.ListN.{length, getD}
@@ -37,8 +37,26 @@ abbrev doubled : ℕ → ℕ
 doubled zero = 1
 doubled (suc k) = doubled k + doubled k
 
-absurd-none : {A : Type 0} (low high : ℕ) → low < high → high - low < 1 → A
-absurd-none low high h f = absurd (omega arith)
+-- k names suffice: where some are left, the next rank m is between low and high, and so are the names on either side of it
+abbrev Fits : ℕ → ℕ → ℕ → ℕ → Type 0
+Fits zero low high m = high ≤ low
+Fits (suc k) low high m = low < high → (low ≤ m) × (m < high) × (m - low < doubled k) × (high - (m + 1) < doubled k)
+
+-- wherever it begins, at most 255 names are left on a side
+fits-start : (n m : ℕ) → n ≤ 256 → m ≤ n - 1 → Fits mostNames 0 n m
+fits-start n m h f l = (omega arith, omega arith, omega arith, omega arith)
+
+-- between low and high are names for k to decide: the middle one fits
+fits-middle : (k low high m : ℕ) → high - low < doubled k → m ≡ (low + high) / 2 → Fits k low high m
+fits-middle zero low high m d e = omega arith
+fits-middle (suc k) low high m d e = λ l. (omega arith, omega arith, omega arith, omega arith)
+
+module _ (k low high m : ℕ) (h : low < high) (f : Fits (suc k) low high m) where
+  fits-up : {m′ : ℕ} → m′ ≡ (m + 1 + high) / 2 → Fits k (m + 1) high m′
+  fits-up e = fits-middle k (m + 1) high _ (f h .3) e
+
+  fits-down : {m′ : ℕ} → m′ ≡ (low + m) / 2 → Fits k low m m′
+  fits-down e = fits-middle k low m _ (f h .2) e
 
 -- ---- it reads no more names than it has to read
 
@@ -56,116 +74,117 @@ module _ (names : ℕ → ℕ) where
   asks-few p next k f = omega arith
 
   module _ (order : List ℕ) (n x : ℕ) where
-    halves-few : (k low high : ℕ) → length (readBy names (halves k order n x low high)) ≤ k
+    halves-few : (k low high m : ℕ) → length (readBy names (halves k order n x low high m)) ≤ k
     unfolding halves
-    halves-few zero low high = tells-few (lookup low n) 0
-    halves-few (suc k) low high =
-        let m = (low + high) / 2 in
+    halves-few zero low high m = tells-few (lookup low n) 0
+    halves-few (suc k) low high m =
         let p = getD order m 0 in
         either-few (ltb low high) _ (tells (lookup low n)) (suc k)
         (asks-few p _ k
         (either-few (eqb (names p) x) (tells (lookup m p)) _ k (tells-few (lookup m p) k)
-        (either-few (ltb (names p) x) _ _ k (halves-few k (m + 1) high) (halves-few k low m))))
+        (either-few (ltb (names p) x) _ _ k (halves-few k (m + 1) high ((m + 1 + high) / 2)) (halves-few k low m ((low + m) / 2)))))
         (tells-few (lookup low n) (suc k))
 
-    -- "reads at most nine of the table's names", whatever the order and the names are
-    pub nine-names : length (readBy names (lookUp order n x)) ≤ 9
+    -- "reads at most nine of the table's names", whatever the order and the names are, and wherever it begins
+    pub nine-names : (first : ℕ) → length (readBy names (lookUp order n first x)) ≤ 9
     unfolding lookUp
-    nine-names = halves-few mostNames 0 n
+    nine-names first = halves-few mostNames 0 n first
 
     -- ---- a turn of the search
 
-    abbrev middle : ℕ → ℕ → ℕ
-    middle low high = (low + high) / 2
+    abbrev asked : ℕ → ℕ
+    asked m = names (getD order m 0)
 
-    abbrev asked : ℕ → ℕ → ℕ
-    asked low high = names (getD order (middle low high) 0)
+    abbrev to : ℕ → ℕ → ℕ → ℕ → Lookup
+    to k low high m = answered names (halves k order n x low high m)
 
-    abbrev to : ℕ → ℕ → ℕ → Lookup
-    to k low high = answered names (halves k order n x low high)
-
-    module _ (k low high : ℕ) (h : low < high) where
-      turn-found : asked low high ≡ x → to (suc k) low high ≡ lookup (middle low high) (getD order (middle low high) 0)
+    module _ (k low high m : ℕ) (h : low < high) where
+      turn-found : asked m ≡ x → to (suc k) low high m ≡ lookup m (getD order m 0)
       unfolding halves answered
       turn-found e =
           ap (answered names) (chosen (ltb low high) _ _ (lt-ltb low high h))
-          ∙ ap (answered names) (chosen (eqb (asked low high) x) _ _ (eq-eqb _ _ e))
+          ∙ ap (answered names) (chosen (eqb (asked m) x) _ _ (eq-eqb _ _ e))
 
-      turn-up : asked low high < x → to (suc k) low high ≡ to k (middle low high + 1) high
+      turn-up : asked m < x → to (suc k) low high m ≡ to k (m + 1) high ((m + 1 + high) / 2)
       unfolding halves answered
       turn-up l =
           ap (answered names) (chosen (ltb low high) _ _ (lt-ltb low high h))
-          ∙ ap (answered names) (passed (eqb (asked low high) x) _ _ (ne-eqb (asked low high) x (λ e. absurd-less (asked low high) x e l)))
-          ∙ ap (answered names) (chosen (ltb (asked low high) x) _ _ (lt-ltb _ _ l))
+          ∙ ap (answered names) (passed (eqb (asked m) x) _ _ (ne-eqb (asked m) x (λ e. absurd-less (asked m) x e l)))
+          ∙ ap (answered names) (chosen (ltb (asked m) x) _ _ (lt-ltb _ _ l))
 
-      turn-down : x < asked low high → to (suc k) low high ≡ to k low (middle low high)
+      turn-down : x < asked m → to (suc k) low high m ≡ to k low m ((low + m) / 2)
       unfolding halves answered
       turn-down l =
           ap (answered names) (chosen (ltb low high) _ _ (lt-ltb low high h))
-          ∙ ap (answered names) (passed (eqb (asked low high) x) _ _ (ne-eqb (asked low high) x (λ e. absurd-less x (asked low high) (sym e) l)))
-          ∙ ap (answered names) (passed (ltb (asked low high) x) _ _ (le-ltb (asked low high) x (omega arith)))
+          ∙ ap (answered names) (passed (eqb (asked m) x) _ _ (ne-eqb (asked m) x (λ e. absurd-less x (asked m) (sym e) l)))
+          ∙ ap (answered names) (passed (ltb (asked m) x) _ _ (le-ltb (asked m) x (omega arith)))
 
-    turn-end : (k low high : ℕ) → high ≤ low → to k low high ≡ lookup low n
+    turn-end : (k low high m : ℕ) → high ≤ low → to k low high m ≡ lookup low n
     unfolding halves answered
-    turn-end zero low high h = refl
-    turn-end (suc k) low high h = ap (answered names) (passed (ltb low high) _ _ (le-ltb low high h))
+    turn-end zero low high m h = refl
+    turn-end (suc k) low high m h = ap (answered names) (passed (ltb low high) _ _ (le-ltb low high h))
 
-    -- ---- the loop of the search, in the words of the code: what it comes to from low and high is what the whole search comes to
+    -- ---- the loop of the search, in the words of the code: what it comes to from here is what the whole search comes to
 
-    pub record Halving (whole : Lookup) (low high : ℕ) : Type 0 where
+    pub record Halving (whole : Lookup) (low high m : ℕ) : Type 0 where
       pub left : ℕ
-      pub enough : high - low < doubled left
+      pub fits : Fits left low high m
       pub least : low ≤ high
       pub most : high ≤ n
-      pub is : to left low high ≡ whole
+      pub is : to left low high m ≡ whole
 
-    pub halving-start : n ≤ 256 → Halving (answered names (lookUp order n x)) 0 n
+    pub halving-start : {first : ℕ} → n ≤ 256 → first ≤ n - 1 → Halving (answered names (lookUp order n first x)) 0 n first
     unfolding lookUp
-    halving-start h = record { left = mostNames; enough = omega arith; least = omega arith; most = omega arith; is = refl }
+    halving-start h f =
+        record { left = mostNames; fits = fits-start n _ h f; least = omega arith; most = omega arith; is = refl }
 
-    module _ {whole : Lookup} {low high : ℕ} (g : Halving whole low high) where
+    module _ {whole : Lookup} {low high m : ℕ} (g : Halving whole low high m) where
       pub halving-end : high ≤ low → lookup low n ≡ whole
-      halving-end h = sym (turn-end (g .left) low high h) ∙ g .is
+      halving-end h = sym (turn-end (g .left) low high m h) ∙ g .is
 
-      module _ (h : low < high) {m p : ℕ} (a : m ≡ middle low high) (b : p ≡ getD order m 0) where
-        there : asked low high ≡ names p
-        there = sym (ap names (b ∙ ap (λ (i : ℕ). getD order i 0) a))
-
-        pub halving-found : names p ≡ x → lookup m p ≡ whole
-        halving-found e = go (g .left) (g .enough) (g .is)
+      module _ (h : low < high) where
+        pub halving-inside : (low ≤ m) × (m < high)
+        halving-inside = go (g .left) (g .fits)
           where
-            go : (k : ℕ) → high - low < doubled k → to k low high ≡ whole → lookup m p ≡ whole
-            go zero f q = absurd-none low high h f
-            go (suc k) f q =
-                ap₂ lookup a (b ∙ ap (λ (i : ℕ). getD order i 0) a) ∙ sym (turn-found k low high h (there ∙ e)) ∙ q
+            go : (k : ℕ) → Fits k low high m → (low ≤ m) × (m < high)
+            go zero f = absurd (omega arith)
+            go (suc k) f = (f h .0, f h .1)
 
-        pub halving-up : names p < x → Halving whole (m + 1) high
-        halving-up l = go (g .left) (g .enough) (g .is)
-          where
-            go : (k : ℕ) → high - low < doubled k → to k low high ≡ whole → Halving whole (m + 1) high
-            go zero f q = absurd-none low high h f
-            go (suc k) f q =
-                record {
-                  left = k;
-                  enough = omega (arith, a);
-                  least = omega (arith, a);
-                  most = g .most;
-                  is = ap (λ (i : ℕ). to k (i + 1) high) a ∙ sym (turn-up k low high h (subst (λ (y : ℕ). y < x) (sym there) l)) ∙ q;
-                }
+        module _ {p : ℕ} (b : p ≡ getD order m 0) where
+          pub halving-found : names p ≡ x → lookup m p ≡ whole
+          halving-found e = go (g .left) (g .fits) (g .is)
+            where
+              go : (k : ℕ) → Fits k low high m → to k low high m ≡ whole → lookup m p ≡ whole
+              go zero f q = absurd (omega arith)
+              go (suc k) f q = ap (lookup m) b ∙ sym (turn-found k low high m h (ap names (sym b) ∙ e)) ∙ q
 
-        pub halving-down : x < names p → Halving whole low m
-        halving-down l = go (g .left) (g .enough) (g .is)
-          where
-            go : (k : ℕ) → high - low < doubled k → to k low high ≡ whole → Halving whole low m
-            go zero f q = absurd-none low high h f
-            go (suc k) f q =
-                record {
-                  left = k;
-                  enough = omega (arith, a);
-                  least = omega (arith, a);
-                  most = omega (arith, a, g .most);
-                  is = ap (to k low) a ∙ sym (turn-down k low high h (subst (λ (y : ℕ). x < y) (sym there) l)) ∙ q;
-                }
+          pub halving-up : names p < x → {m′ : ℕ} → m′ ≡ (m + 1 + high) / 2 → Halving whole (m + 1) high m′
+          halving-up l {m′} e = go (g .left) (g .fits) (g .is)
+            where
+              go : (k : ℕ) → Fits k low high m → to k low high m ≡ whole → Halving whole (m + 1) high m′
+              go zero f q = absurd (omega arith)
+              go (suc k) f q =
+                  record {
+                    left = k;
+                    fits = fits-up k low high m h f e;
+                    least = omega (arith, f h .1);
+                    most = g .most;
+                    is = ap (to k (m + 1) high) e ∙ sym (turn-up k low high m h (subst (λ (y : ℕ). names y < x) b l)) ∙ q;
+                  }
+
+          pub halving-down : x < names p → {m′ : ℕ} → m′ ≡ (low + m) / 2 → Halving whole low m m′
+          halving-down l {m′} e = go (g .left) (g .fits) (g .is)
+            where
+              go : (k : ℕ) → Fits k low high m → to k low high m ≡ whole → Halving whole low m m′
+              go zero f q = absurd (omega arith)
+              go (suc k) f q =
+                  record {
+                    left = k;
+                    fits = fits-down k low high m h f e;
+                    least = f h .0;
+                    most = omega (arith, f h .1, g .most);
+                    is = ap (to k low m) e ∙ sym (turn-down k low high m h (subst (λ (y : ℕ). x < names y) b l)) ∙ q;
+                  }
 
 -- ---- in an order it finds what is there
 
@@ -212,54 +231,53 @@ module _ {names : ℕ → ℕ} {n : ℕ} {order : List ℕ} (o : InOrder names n
         above = λ _ i p. b .higher i (omega arith);
       }
 
-  abbrev found-from : ℕ → ℕ → ℕ → Type 0
-  found-from k low high = LookedUp names n order x (answered names (halves k order n x low high))
+  abbrev found-from : ℕ → ℕ → ℕ → ℕ → Type 0
+  found-from k low high m = LookedUp names n order x (answered names (halves k order n x low high m))
 
   abbrev Finds : ℕ → Type 0
-  Finds k = (low high : ℕ) → low ≤ high → high ≤ n → high - low < doubled k → Between low high → found-from k low high
+  Finds k = (low high m : ℕ) → low ≤ high → high ≤ n → Fits k low high m → Between low high → found-from k low high m
 
   one-more : (k : ℕ) → Finds k → Finds (suc k)
-  one-more k finds low high l h f b = go (three-ways low high)
+  one-more k finds low high m l h f b = go (three-ways low high)
     where
-      m : ℕ
-      m = (low + high) / 2
-
-      turn : low < high → (name m < x) ⊎ ((name m ≡ x) ⊎ (x < name m)) → found-from (suc k) low high
+      turn : low < high → (name m < x) ⊎ ((name m ≡ x) ⊎ (x < name m)) → found-from (suc k) low high m
       turn q (inl e) =
-          subst (LookedUp names n order x) (sym (turn-up names order n x k low high q e))
-          (finds (m + 1) high (omega arith) h (omega arith) (record { lower = lower-to m (omega arith) e; higher = b .higher }))
+          subst (LookedUp names n order x) (sym (turn-up names order n x k low high m q e))
+          (finds (m + 1) high ((m + 1 + high) / 2) (omega (arith, f q .1)) h (fits-up k low high m q f refl)
+          (record { lower = lower-to m (omega (arith, f q .1)) e; higher = b .higher }))
       turn q (inr (inl e)) =
-          subst (LookedUp names n order x) (sym (turn-found names order n x k low high q e))
+          let in-table : getD order m 0 < n = o .within m (omega (arith, f q .1)) in
+          subst (LookedUp names n order x) (sym (turn-found names order n x k low high m q e))
           (record {
-            most = omega (arith, o .within m (omega arith));
-            rank-most = omega arith;
-            there = λ _. e;
-            below = λ z. absurd (omega (arith, o .within m (omega arith)));
-            above = λ z. absurd (omega (arith, o .within m (omega arith)));
+            most = omega arith;
+            rank-most = omega (arith, f q .1);
+            there = λ _. (e, omega (arith, f q .1));
+            below = λ z. absurd (omega arith);
+            above = λ z. absurd (omega arith);
           })
       turn q (inr (inr e)) =
-          subst (LookedUp names n order x) (sym (turn-down names order n x k low high q e))
-          (finds low m (omega arith) (omega arith) (omega arith) (record { lower = b .lower; higher = higher-from m e }))
+          subst (LookedUp names n order x) (sym (turn-down names order n x k low high m q e))
+          (finds low m ((low + m) / 2) (f q .0) (omega (arith, f q .1)) (fits-down k low high m q f refl)
+          (record { lower = b .lower; higher = higher-from m e }))
 
-      go : (low < high) ⊎ ((low ≡ high) ⊎ (high < low)) → found-from (suc k) low high
+      go : (low < high) ⊎ ((low ≡ high) ⊎ (high < low)) → found-from (suc k) low high m
       go (inl q) = turn q (three-ways (name m) x)
       go (inr (inl q)) =
-          subst (LookedUp names n order x) (sym (turn-end names order n x (suc k) low high (omega arith)))
+          subst (LookedUp names n order x) (sym (turn-end names order n x (suc k) low high m (omega arith)))
           (none-there low high l (omega arith) h b)
       go (inr (inr q)) = absurd (omega arith)
 
   finds : (k : ℕ) → Finds k
-  finds zero low high =
+  finds zero low high m =
       λ l h f b.
-      subst (LookedUp names n order x) (sym (turn-end names order n x 0 low high (omega arith)))
-      (none-there low high l (omega arith) h b)
-  finds (suc k) low high = one-more k (finds k) low high
+      subst (LookedUp names n order x) (sym (turn-end names order n x 0 low high m f)) (none-there low high l f h b)
+  finds (suc k) low high m = one-more k (finds k) low high m
 
-  -- at most 256 names: nine suffice
-  pub looked-up : n ≤ 256 → LookedUp names n order x (answered names (lookUp order n x))
+  -- at most 256 names: nine suffice, wherever the lookup begins
+  pub looked-up : (first : ℕ) → n ≤ 256 → first ≤ n - 1 → LookedUp names n order x (answered names (lookUp order n first x))
   unfolding lookUp
-  looked-up h =
-      finds mostNames 0 n (omega arith) (omega arith) (omega arith)
+  looked-up first h f =
+      finds mostNames 0 n first (omega arith) (omega arith) (fits-start n first h f)
       (record { lower = λ i z. absurd (omega arith); higher = λ i z q. absurd (omega arith) })
 
   -- where the lookup tells n, the name is none of the n
@@ -283,6 +301,17 @@ in-order-by {a} {b} {n} {order} s o =
       rising =
           λ i j l h.
           omega (arith, o .rising i j l h, s (getD order i 0) (o .within i (omega arith)), s (getD order j 0) (o .within j h));
+    }
+
+-- and so is another list with the same positions
+pub in-order-same : {names : ℕ → ℕ} {n : ℕ} {order other : List ℕ} → ((i : ℕ) → i < n → getD other i 0 ≡ getD order i 0) →
+    InOrder names n order → InOrder names n other
+in-order-same {names} {n} {order} {other} s o =
+    record {
+      rankOf = o .rankOf;
+      ranked = λ p h. (o .ranked p h .0, s (o .rankOf p) (o .ranked p h .0) ∙ o .ranked p h .1);
+      within = λ i h. omega (arith, s i h, o .within i h);
+      rising = λ i j l h. omega (arith, ap names (s i (omega arith)), ap names (s j h), o .rising i j l h);
     }
 
 -- no names are in any order

@@ -505,7 +505,7 @@ byName = 2 ∷ 1 ∷ 4 ∷ 0 ∷ 3 ∷ []
 -- what a lookup tells, and the positions whose names it has read
 abbrev looking : List ℕ → String → Lookup × List ℕ
 looking order text =
-    let s = lookUp order 5 (name text) in
+    let s = lookUp order 5 2 (name text) in
     (answered (nameAt mentioned) s, readBy (nameAt mentioned) s)
 
 -- a table of 256 symbols that are in order
@@ -513,10 +513,11 @@ pub upTo : ℕ → List ℕ
 upTo zero = []
 upTo (suc n) = upTo n ++ (n ∷ [])
 
-abbrev reading : ℕ → List ℕ
-reading x = readBy (λ p. 2 * p) (lookUp (upTo 256) 256 x)
+abbrev reading : ℕ → ℕ → List ℕ
+reading first x = readBy (λ p. 2 * p) (lookUp (upTo 256) 256 first x)
 
--- each of five names; a name below all, between two and above all; no names; an order that is wrong; nine names and eight
+-- each of five names; a name below all, between two and above all; an order that is wrong; no names; nine names and eight of 256 from
+-- the middle; from elsewhere one, and nine
 abbrev Lookups : Type 0
 Lookups =
     (looking byName "F" ≡ (lookup 2 4, 4 ∷ []))
@@ -529,11 +530,14 @@ Lookups =
     × (looking byName "G" ≡ (lookup 3 5, 4 ∷ 3 ∷ 0 ∷ []))
     × (looking byName "L" ≡ (lookup 5 5, 4 ∷ 3 ∷ []))
     × (looking (0 ∷ 1 ∷ 2 ∷ 3 ∷ 4 ∷ []) "H" ≡ (lookup 5 5, 2 ∷ 4 ∷ []))
-    × (answered (nameAt []) (lookUp [] 0 (name "A")) ≡ lookup 0 0)
+    × (answered (nameAt []) (lookUp [] 0 0 (name "A")) ≡ lookup 0 0)
     × (nameAt mentioned 5 ≡ 0)
-    × (reading 0 ≡ 128 ∷ 64 ∷ 32 ∷ 16 ∷ 8 ∷ 4 ∷ 2 ∷ 1 ∷ 0 ∷ [])
-    × (reading 1 ≡ 128 ∷ 64 ∷ 32 ∷ 16 ∷ 8 ∷ 4 ∷ 2 ∷ 1 ∷ 0 ∷ [])
-    × (reading 510 ≡ 128 ∷ 192 ∷ 224 ∷ 240 ∷ 248 ∷ 252 ∷ 254 ∷ 255 ∷ [])
+    × (reading 128 0 ≡ 128 ∷ 64 ∷ 32 ∷ 16 ∷ 8 ∷ 4 ∷ 2 ∷ 1 ∷ 0 ∷ [])
+    × (reading 128 1 ≡ 128 ∷ 64 ∷ 32 ∷ 16 ∷ 8 ∷ 4 ∷ 2 ∷ 1 ∷ 0 ∷ [])
+    × (reading 128 510 ≡ 128 ∷ 192 ∷ 224 ∷ 240 ∷ 248 ∷ 252 ∷ 254 ∷ 255 ∷ [])
+    × (reading 7 14 ≡ 7 ∷ [])
+    × (reading 0 509 ≡ 0 ∷ 128 ∷ 192 ∷ 224 ∷ 240 ∷ 248 ∷ 252 ∷ 254 ∷ 255 ∷ [])
+    × (reading 255 1 ≡ 255 ∷ 127 ∷ 63 ∷ 31 ∷ 15 ∷ 7 ∷ 3 ∷ 1 ∷ 0 ∷ [])
 
 -- the names of the answers, by number
 abbrev Names : Type 0
@@ -591,7 +595,7 @@ small-table = (
   (refl, refl, refl, refl, refl, refl, refl, refl, refl, refl),
   (refl, refl, refl, refl, refl, refl, refl, refl, refl, refl, refl, refl, refl, refl, refl, refl, refl, refl, refl, refl, refl),
   (refl, refl, refl, refl, refl, refl, refl, refl, refl, refl, refl, refl, refl),
-  (refl, refl, refl, refl, refl, refl, refl, refl, refl, refl, refl, refl, refl, refl, refl),
+  (refl, refl, refl, refl, refl, refl, refl, refl, refl, refl, refl, refl, refl, refl, refl, refl, refl, refl),
   (refl, refl, refl, refl, refl, refl, refl, refl, refl, refl, refl, refl, refl, refl, refl, refl, refl, refl),
   (refl, refl, refl, refl, refl, refl, refl, refl),
 )

@@ -31,22 +31,21 @@ readBy names (asks p next) = p ∷ readBy names (next (names p))
 abbrev pub lookup : ℕ → ℕ → Lookup
 lookup r p = record { rank = r; position = p }
 
--- for the name x, in an order of n positions, between the ranks low and high, with so many names to read
-unfoldable pub halves : ℕ → List ℕ → ℕ → ℕ → ℕ → ℕ → Search
-halves zero order n x low high = tells (lookup low n)
-halves (suc most) order n x low high =
-    let middle = (low + high) / 2 in
-    let p = getD order middle 0 in
+-- for the name x, in an order of n positions, between the ranks low and high, next at rank m, with so many names to read
+unfoldable pub halves : ℕ → List ℕ → ℕ → ℕ → ℕ → ℕ → ℕ → Search
+halves zero order n x low high m = tells (lookup low n)
+halves (suc most) order n x low high m =
+    let p = getD order m 0 in
     cond (ltb low high)
     (asks p
     (λ y.
-    cond (eqb y x) (tells (lookup middle p))
-    (cond (ltb y x) (halves most order n x (middle + 1) high) (halves most order n x low middle))))
+    cond (eqb y x) (tells (lookup m p))
+    (cond (ltb y x) (halves most order n x (m + 1) high ((m + 1 + high) / 2)) (halves most order n x low m ((low + m) / 2)))))
     (tells (lookup low n))
 
--- a lookup in a load
-unfoldable pub lookUp : List ℕ → ℕ → ℕ → Search
-lookUp order n x = halves mostNames order n x 0 n
+-- a lookup in a load, which begins at a rank that is given
+unfoldable pub lookUp : List ℕ → ℕ → ℕ → ℕ → Search
+lookUp order n first x = halves mostNames order n x 0 n first
 
 -- ---- what the order has to be for a lookup to find what is there
 
@@ -65,6 +64,6 @@ pub record InOrder (names : ℕ → ℕ) (n : ℕ) (order : List ℕ) : Type 0 w
 pub record LookedUp (names : ℕ → ℕ) (n : ℕ) (order : List ℕ) (x : ℕ) (r : Lookup) : Type 0 where
   pub most : r .position ≤ n
   pub rank-most : r .rank ≤ n
-  pub there : r .position < n → names (r .position) ≡ x
+  pub there : r .position < n → (names (r .position) ≡ x) × (r .rank < n)
   pub below : n ≤ r .position → (i : ℕ) → i < r .rank → names (getD order i 0) < x
   pub above : n ≤ r .position → (i : ℕ) → r .rank ≤ i → i < n → x < names (getD order i 0)

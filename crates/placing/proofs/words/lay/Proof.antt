@@ -1,14 +1,14 @@
 use Rattle.rules.proofs.BoolLaws.{never}
 use borrow.Author.Needs.{needs}
 use native.Mathlib.Omega.{arith}
-use mathlib.Core.Path.{_≡_, refl, sym, ap, _∙_}
+use mathlib.Core.Path.{_≡_, refl, sym, _∙_}
 use lib.ListN.{length}
 use Prim.Native.Nat.{_-_, _≤_}
 use Rattle.rules.specs.Placing.{codeIn}
 use Rattle.state.specs.Layout.{decode}
 use Rattle.state.specs.Good.{Good}
 use Rattle.tables.specs.Heads.{partsFrom}
-use Rattle.placing.specs.Effects.{Laid, Laying}
+use Rattle.placing.specs.Effects.{Laying}
 use Rattle.placing.proofs.WordLaws.{lay-table, lay-skip, lay-clash, lay-put, lay-done}
 use Rattle.placing.proofs.words.lay.Statement.{statement}
 use Rattle.placing.proofs.words.lay.Tie as tie
