@@ -1,6 +1,6 @@
 #!/usr/bin/env bash
 # Plants one error at a time into a copy of the Rust linker, links the copy in place of the verified library, and looks
-# whether differ notices. So it tries the harness and the C interface, and needs no verified library. A quarter of an hour.
+# whether differ notices. So it tries the harness and the C interface, and needs no verified library. A quarter of an hour and more.
 #
 #   scripts/mutants.sh [WORD]                only mutants whose label has the word
 #   scripts/mutants.sh WORD --no-limits      the same by the random cases alone; any arguments of differ
