@@ -1,4 +1,5 @@
 pub mod FillLaws
+pub mod MarkerLaws
 pub mod LimitLaws
 pub mod GrowLaws
 pub mod DateLaws

@@ -1,10 +1,11 @@
--- How much a file can add to the tables: a line that adds something has a byte and an end of its own, so a part costs two
--- bytes; a module's row costs the END header and the title behind it, and a section's row the LSB and the LEB header.
-use Prim.Native.Nat.{ℕ, _+_, _-_, _*_, _≤_}
+-- How much a file can add to the tables: a line that adds something has a byte and an end of its own, so a part costs two bytes. A
+-- header has six bytes and its end; a module's row costs the END header and the title behind it, and a section's row the LSB and the
+-- LEB header: nine bytes at least.
+use Prim.Native.Nat.{ℕ, suc, _+_, _-_, _*_, _≤_}
 use native.Mathlib.Omega.{arith}
 use mathlib.Core.Bool.{Bool, true, false, cond, not, _&&_, _||_, or-true}
 use mathlib.Core.List.{List, [], _∷_}
-use mathlib.Core.Path.{_≡_, refl, ap}
+use mathlib.Core.Path.{_≡_, refl, sym, ap, subst}
 use lib.ListN.{length}
 use lib.Dec.{eqb, leb, ltb}
 use Rattle.rules.specs.Text.{LF, CR, linesOf, widenLine, fieldsOf, fieldsFrom, legalFront}
@@ -24,6 +25,7 @@ use Rattle.rules.specs.declared.reading.Step.{Step}
 use Rattle.rules.specs.declared.reading.Step.the-variants.{Stop, Next, Add, CloseModule, CloseSection}
 use Rattle.rules.proofs.LineLaws.{CanSay, bad, blank, head, opening, closing, coded, entered, mentioned, dataRead, initRead, parameter, sub, line-can-say}
 use Rattle.reading.specs.TwoTables.{Tables}
+use Rattle.reading.proofs.MarkerLaws.{Long, header-long}
 
 -- ---- the bytes of lines, with an end for each
 
@@ -67,7 +69,7 @@ lines-count text = omega (arith, lines-weight text, length-weight (linesOf text)
 unfoldable pub awaited : Expected → ℕ
 awaited AnyHeader = 0
 awaited OpeningTitle = 0
-awaited ClosingTitle = 2
+awaited ClosingTitle = 7
 awaited CodeRecord = 0
 awaited EntryRecord = 0
 awaited ExternalRecord = 0
@@ -77,19 +79,19 @@ awaited ParameterRecord = 0
 awaited SubRecord = 0
 
 unfoldable pub pending : Mode → ℕ
-pending m = awaited (m .expected) + cond (m .section .inside) 2 0
+pending m = awaited (m .expected) + cond (m .section .inside) 7 0
 
 -- what is paid for after a step, with what it adds
 unfoldable pub spent : Step → ℕ
 spent (Stop k c) = 0
 spent (Next m) = pending m
 spent (Add m p) = 2 + pending m
-spent (CloseModule m line) = 4 + pending m
-spent (CloseSection m line) = 4 + pending m
+spent (CloseModule m line) = 9 + pending m
+spent (CloseSection m line) = 9 + pending m
 
 -- what the tables hold
 unfoldable pub used : Tables → ℕ
-used t = 2 * length (t .parts) + 4 * length (t .rows)
+used t = 2 * length (t .parts) + 9 * length (t .rows)
 
 choose-step : (t : Bool) (x y : Step) (k : ℕ) → spent x ≤ k → spent y ≤ k → spent (cond t x y) ≤ k
 choose-step true x y k p q = p
@@ -115,20 +117,20 @@ module _ (n : ℕ) (b : OpenBlock) (o : OpenModule) (s : OpenSection) where
   records-spend :
       (w : Expected) (count : ℕ) → awaited w ≡ 0
       → spent (cond (o .inside) (Next (expectRecords w 0 count (mode AnyHeader b o s))) (Stop 7 0))
-      ≤ pending (mode AnyHeader b o s) + 2
+      ≤ pending (mode AnyHeader b o s) + 7
   unfolding spent pending expectRecords
   records-spend w count e = unless (o .inside) _ 7 0 _ (omega (arith, none-awaited (eqb count 0) w e))
 
-  library-end-spends : spent (libraryEndStep (mode AnyHeader b o s)) ≤ pending (mode AnyHeader b o s) + 2
+  library-end-spends : spent (libraryEndStep (mode AnyHeader b o s)) ≤ pending (mode AnyHeader b o s) + 7
   unfolding spent pending awaited libraryEndStep leaveSection
   library-end-spends =
       let close = CloseSection (leaveSection (mode AnyHeader b o s)) (s .line) in
-      elim (s .inside) as (λ t. spent (cond (o .inside || not t) (Stop 7 0) close) ≤ 0 + cond t 2 0 + 2) [
-        | true ↦ choose-step (o .inside || false) _ _ 4 (omega arith) (omega arith)
+      elim (s .inside) as (λ t. spent (cond (o .inside || not t) (Stop 7 0) close) ≤ 0 + cond t 7 0 + 7) [
+        | true ↦ choose-step (o .inside || false) _ _ 14 (omega arith) (omega arith)
         | false ↦ rw (or-true (o .inside)) (omega arith)
       ]
 
-  header-spends : (h : Header) → spent (headerStep n (mode AnyHeader b o s) h) ≤ pending (mode AnyHeader b o s) + 2
+  header-spends : (h : Header) → spent (headerStep n (mode AnyHeader b o s) h) ≤ pending (mode AnyHeader b o s) + 7
   unfolding spent pending awaited headerStep expect expectRecords titleStep titleHeader libraryStep enterSection
   header-spends (CodeBlock count offset) = unless (o .inside) _ 7 0 _ (omega (arith, none-awaited (eqb count 0) CodeRecord refl))
   header-spends EndBlock = unless (o .inside) _ 7 0 _ (omega arith)
@@ -150,23 +152,23 @@ module _ (n : ℕ) (b : OpenBlock) (o : OpenModule) (s : OpenSection) where
 
   -- what a line can say where w is expected
   answer-spends :
-      (w : Expected) {a : LineAnswer} → CanSay w a
-      → spent (stepOf n (mode w b o s) a) ≤ pending (mode w b o s) + 2
+      (w : Expected) {a : LineAnswer} → CanSay w a → (k : ℕ) → 1 ≤ k → (w ≡ AnyHeader → Long k a)
+      → spent (stepOf n (mode w b o s) a) ≤ pending (mode w b o s) + (k + 1)
   unfolding spent pending awaited stepOf enterModule closingStep leaveModule entryStep countEntry externalStep countExternal recordDone parameterStep subStep expectSubs
-  answer-spends w bad = omega arith
-  answer-spends w blank = omega arith
-  answer-spends w (head {h} l) = header-spends h
-  answer-spends w (opening l) = omega arith
-  answer-spends w (closing {t} l) = unless (eqb t (o .title)) _ 7 0 _ (omega arith)
-  answer-spends w (coded l) = omega (arith, done-spends CodeRecord CodeRecord refl)
-  answer-spends w (entered l) = unless (ltb (o .entries) 64) _ 8 0 _ (omega (arith, done-spends EntryRecord EntryRecord refl))
-  answer-spends w (mentioned l) =
+  answer-spends w bad k l long = omega arith
+  answer-spends w blank k l long = omega arith
+  answer-spends w (head {h} _) k l long = omega (arith, long refl, header-spends h)
+  answer-spends w (opening _) k l long = omega arith
+  answer-spends w (closing {t} _) k l long = unless (eqb t (o .title)) _ 7 0 _ (omega arith)
+  answer-spends w (coded _) k l long = omega (arith, done-spends CodeRecord CodeRecord refl)
+  answer-spends w (entered _) k l long = unless (ltb (o .entries) 64) _ 8 0 _ (omega (arith, done-spends EntryRecord EntryRecord refl))
+  answer-spends w (mentioned _) k l long =
       unless (ltb (o .externals) 64) _ 8 0 _ (omega (arith, done-spends ExternalRecord ExternalRecord refl))
-  answer-spends w dataRead = omega (arith, done-spends DataRecord DataRecord refl)
-  answer-spends w initRead = omega (arith, done-spends InitRecord InitRecord refl)
-  answer-spends w (parameter {size} l) =
+  answer-spends w dataRead k l long = omega (arith, done-spends DataRecord DataRecord refl)
+  answer-spends w initRead k l long = omega (arith, done-spends InitRecord InitRecord refl)
+  answer-spends w (parameter {size} _) k l long =
       choose-mode (eqb size 0) _ _ _ (omega (arith, done-spends ParameterRecord ParameterRecord refl)) (omega arith)
-  answer-spends w sub =
+  answer-spends w sub k l long =
       choose-mode (leb (b .subs) 1) _ _ _ (omega (arith, done-spends SubRecord ParameterRecord refl)) (omega arith)
 
 -- an empty line is skipped
@@ -178,7 +180,8 @@ pub line-spends : (n : ℕ) (m : Mode) (l : List ℕ) → spent (stepAt n m l) �
 unfolding spent
 line-spends n m [] = rw empty-line (omega arith)
 line-spends n m (x ∷ l) =
-    omega (arith, answer-spends n (m .block) (m .object) (m .section) (m .expected) (line-can-say (m .expected) (x ∷ l)))
+    answer-spends n (m .block) (m .object) (m .section) (m .expected) (line-can-say (m .expected) (x ∷ l)) (suc (length l)) (omega arith)
+    (λ e. subst (λ (w : Expected). Long (suc (length l)) (lineAnswer w (x ∷ l))) (sym e) (header-long (x ∷ l)))
 
 pub start-pending : pending atStart ≡ 0
 unfolding pending awaited atStart

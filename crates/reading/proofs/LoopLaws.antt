@@ -42,7 +42,7 @@ module _ (file lentParts lentRows : List ℕ) where
     pub part-cells : parts ≡ overwritten (partsIn here) lentParts
     pub row-cells : rows ≡ overwritten (rowsIn here) lentRows
     pub part-size : length parts ≡ 65536
-    pub row-size : length rows ≡ 32768
+    pub row-size : length rows ≡ 14562
     pub begun : Begun here
     pub reading : readFrom n m (rest at) ≡ readingOf file
     pub tables : tablesFrom n m here (rest at) ≡ tablesOf file
@@ -108,7 +108,7 @@ module _ (file lentParts lentRows : List ℕ) where
     -- the next line, after the tables became t
     proceed :
         {next : ℕ} {s : Step} → Turn (b .here) n next s → {ps rs : List ℕ} {k : Mode} {g : Filled} (t : Tables) → g ≡ filledOf t
-        → ps ≡ overwritten (partsIn t) lentParts → rs ≡ overwritten (rowsIn t) lentRows → length ps ≡ 65536 → length rs ≡ 32768
+        → ps ≡ overwritten (partsIn t) lentParts → rs ≡ overwritten (rowsIn t) lentRows → length ps ≡ 65536 → length rs ≡ 14562
         → Begun t
         → readFrom (n + 1) k (rest next) ≡ readingOf file → tablesFrom (n + 1) k t (rest next) ≡ tablesOf file
         → used t + pending k + weight (rest next) ≤ length file + 1 → Before ps rs k g (n + 1) next
@@ -154,7 +154,7 @@ module _ (file lentParts lentRows : List ℕ) where
             → Begun (change (b .here))
             → readFrom (n + 1) k (rest next) ≡ readingOf file
             → tablesFrom (n + 1) k (change (b .here)) (rest next) ≡ tablesOf file
-            → used (b .here) + (4 + pending k) + weight (rest next) ≤ length file + 1 → Before parts new k g (n + 1) next
+            → used (b .here) + (9 + pending k) + weight (rest next) ≤ length file + 1 → Before parts new k g (n + 1) next
         unfolding used
         filed t change h same one g d c u =
             let count = ap length same in
@@ -191,7 +191,7 @@ module _ (file lentParts lentRows : List ℕ) where
     unfolding spent used
     part-room t = record { free = omega (arith, b .short, t .room, count-parts); whole = b .part-size }
 
-    row-room : (x y : ℕ) → used (b .here) + (4 + x) + y ≤ length file + 1 → RowRoom f rows
+    row-room : (x y : ℕ) → used (b .here) + (9 + x) + y ≤ length file + 1 → RowRoom f rows
     unfolding used
     row-room x y h =
         record {

@@ -132,7 +132,7 @@ abbrev pub partRoom : ℕ
 partRoom = 2 * mostParts
 
 abbrev pub mostRows : ℕ
-mostRows = 16384
+mostRows = 7281
 
 abbrev pub rowRoom : ℕ
 rowRoom = 2 * mostRows

@@ -4,10 +4,10 @@ ghost use mathlib.Core.Path.{_≡_};
 ghost use lib.ListN.{getD};
 ghost use Rattle.tables.specs.Tables.{mostCells, headIn, bodyIn};
 
-// Room for the parts, and for the rows, of any file of 65,536 bytes.
+// Room for the parts, and for the rows, of any file of 65,536 bytes: a part takes two bytes of it, a row nine.
 pub const PART_ROOM: usize = 65536;
 
-pub const ROW_ROOM: usize = 32768;
+pub const ROW_ROOM: usize = 14562;
 
 // A cell of a table, 0 past its end.
 pub fn cell(cells: &[u64], i: usize) -> u64
