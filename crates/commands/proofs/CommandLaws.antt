@@ -1,6 +1,5 @@
 -- Each way that a call can end, as its definition has it.
 use Prim.Native.Nat.{ℕ, suc, _+_, _≤_, _<_}
-use native.Mathlib.Decide.{ℕ-discrete}
 use native.Mathlib.Omega.{arith}
 use mathlib.Core.Bool.{Bool, true, false, cond, not, _||_, true≢false, false≢true}
 use mathlib.Core.List.{List, [], _∷_, _++_}
@@ -13,7 +12,6 @@ use lib.Dec.{leb}
 use borrow.Author.Tests.{eq-eqb, ne-eqb, lt-ltb, le-ltb, le-leb, lt-leb, leb-true, leb-false}
 use Rattle.rules.specs.Text.{any, isName, packName, nameOf}
 use Rattle.rules.specs.State.{Symbol, State, state, Mark, unmarked, broken, frozen, fresh, marked, nameIs, isSymbol}
-use Rattle.rules.specs.Lookup.{nameAt}
 use Rattle.rules.specs.Placing.{mention}
 use Rattle.rules.specs.Image.{imageOf}
 use Rattle.rules.specs.Calls.{Lent, wrongLength, damaged, holding, shutBy, Outcome, callAnswer, stopped, done, withSymbols, reset, baseState, base, forceState, force, EndOutcome, endAnswer, endStopped, endDone, isBroken, endState, end}
@@ -75,16 +73,6 @@ chosen-name false n x e = absurd (let z : _≡_ {A = ℕ} 0 1 = cc in omega arit
 no-name : (b : Bool) (n : ℕ) → none ≡ cond b (some n) none → b ≡ false
 no-name true n e = absurd (let z : _≡_ {A = ℕ} 0 1 = cc in omega arith)
 no-name false n e = refl
-
--- the loop that looks for a name: it is none of the first i
-abbrev pub NotBelow : List Symbol → ℕ → ℕ → Type 0
-NotBelow t x i = (j : ℕ) → j < i → nameAt t j ≢ x
-
-pub not-next : (t : List Symbol) {x i : ℕ} → NotBelow t x i → nameAt t i ≢ x → NotBelow t x (i + 1)
-not-next t {x} {i} f n j h = elim (ℕ-discrete j i) [
-  | yes q ↦ λ e. n (ap (nameAt t) (sym q) ∙ e)
-  | no q ↦ f j (omega arith)
-]
 
 -- a symbol that is there is not mentioned again, and one that is not there makes the table longer
 mention-known : (x : ℕ) (t : List Symbol) → isSymbol x t ≡ true → mention x t ≡ t

@@ -1,10 +1,9 @@
 // The calls that change a state: RESET, BASE, FORCE and END. Each tests what document 01 names, in its order, and asks nothing of
 // what it is lent.
-mod names;
-
-use crate::names::mention;
 use image::image_length;
 use image::write_image;
+use order::ROOM;
+use order::make;
 use rules::answer::BUFFER;
 use rules::answer::CallAnswer;
 use rules::answer::DONE;
@@ -15,6 +14,7 @@ use rules::answer::RANGE;
 use rules::answer::RESET;
 use rules::answer::TABLE;
 use rules::limits::LARGEST_BASE;
+use rules::limits::MOST_SYMBOLS;
 use soundness::memory::refusal;
 use state::header::mark;
 use state::header::set_mark;
@@ -27,7 +27,10 @@ use text::names::Name;
 use text::names::read_name;
 ghost use mathlib.Core.Path.{_≡_};
 ghost use Rattle.rules.specs.Calls.{callAnswer, endAnswer, reset as reset-outcome, base as base-outcome, force as force-outcome, end as end-outcome};
-ghost use Rattle.state.specs.Layout.{lent};
+ghost use Rattle.rules.specs.Placing.{mention as mentioned-in};
+ghost use Rattle.state.specs.Layout.{lent, decode};
+ghost use Rattle.state.specs.Good.{Good};
+ghost use Rattle.state.specs.Table.{Joined};
 ghost use Rattle.state.specs.Promise.{Called, Ended};
 
 fn answer(number: u64) -> CallAnswer
@@ -64,6 +67,17 @@ pub fn base(state: &mut [u64], address: u64) -> CallAnswer
     }
     set_next(state, address as usize);
     answer(DONE)
+}
+
+// The name joins the table undefined, if it is new, as an external does in a load: by an order of the table's names. Nothing changes,
+// and the answer is false, where it is new and the table full.
+fn mention(state: &mut [u64], name: u64) -> bool
+    requires { ⌜ Good (now state) ⌝ }
+    ensures { λ r. ⌜ Joined (mentioned-in name (decode (now (state .entry)) .symbols)) (decode (now (state .entry))) r (now (state .exit)) ⌝ }
+{
+    let mut order = [0u8; ROOM];
+    make(state, &mut order);
+    order::mention(state, &mut order, name) < MOST_SYMBOLS
 }
 
 // A name as an undefined symbol.

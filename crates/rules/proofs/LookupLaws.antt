@@ -10,7 +10,7 @@ use lib.ListN.{length, getD}
 use lib.Dec.{eqb, ltb}
 use Rattle.rules.specs.Limits.{mostNames}
 use Rattle.rules.specs.declared.lookup.Lookup.{Lookup}
-use Rattle.rules.specs.Lookup.{Search, tells, asks, answered, readBy, lookup, halves, lookUp, InOrder, LookedUp}
+use Rattle.rules.specs.Lookup.{Search, tells, asks, answered, readBy, lookup, rankLeft, halves, lookUp, InOrder, LookedUp}
 use Rattle.rules.proofs.TestLaws.{Every}
 
 -- ---- a search depends on the names that it reads, and on no others
@@ -79,7 +79,7 @@ module _ (names : ℕ → ℕ) where
     halves-few zero low high m = tells-few (lookup low n) 0
     halves-few (suc k) low high m =
         let p = getD order m 0 in
-        either-few (ltb low high) _ (tells (lookup low n)) (suc k)
+        either-few (rankLeft low high) _ (tells (lookup low n)) (suc k)
         (asks-few p _ k
         (either-few (eqb (names p) x) (tells (lookup m p)) _ k (tells-few (lookup m p) k)
         (either-few (ltb (names p) x) _ _ k (halves-few k (m + 1) high ((m + 1 + high) / 2)) (halves-few k low m ((low + m) / 2)))))
@@ -102,27 +102,27 @@ module _ (names : ℕ → ℕ) where
       turn-found : asked m ≡ x → to (suc k) low high m ≡ lookup m (getD order m 0)
       unfolding halves answered
       turn-found e =
-          ap (answered names) (chosen (ltb low high) _ _ (lt-ltb low high h))
+          ap (answered names) (chosen (rankLeft low high) _ _ (lt-ltb low high h))
           ∙ ap (answered names) (chosen (eqb (asked m) x) _ _ (eq-eqb _ _ e))
 
       turn-up : asked m < x → to (suc k) low high m ≡ to k (m + 1) high ((m + 1 + high) / 2)
       unfolding halves answered
       turn-up l =
-          ap (answered names) (chosen (ltb low high) _ _ (lt-ltb low high h))
+          ap (answered names) (chosen (rankLeft low high) _ _ (lt-ltb low high h))
           ∙ ap (answered names) (passed (eqb (asked m) x) _ _ (ne-eqb (asked m) x (λ e. absurd-less (asked m) x e l)))
           ∙ ap (answered names) (chosen (ltb (asked m) x) _ _ (lt-ltb _ _ l))
 
       turn-down : x < asked m → to (suc k) low high m ≡ to k low m ((low + m) / 2)
       unfolding halves answered
       turn-down l =
-          ap (answered names) (chosen (ltb low high) _ _ (lt-ltb low high h))
+          ap (answered names) (chosen (rankLeft low high) _ _ (lt-ltb low high h))
           ∙ ap (answered names) (passed (eqb (asked m) x) _ _ (ne-eqb (asked m) x (λ e. absurd-less x (asked m) (sym e) l)))
           ∙ ap (answered names) (passed (ltb (asked m) x) _ _ (le-ltb (asked m) x (omega arith)))
 
     turn-end : (k low high m : ℕ) → high ≤ low → to k low high m ≡ lookup low n
     unfolding halves answered
     turn-end zero low high m h = refl
-    turn-end (suc k) low high m h = ap (answered names) (passed (ltb low high) _ _ (le-ltb low high h))
+    turn-end (suc k) low high m h = ap (answered names) (passed (rankLeft low high) _ _ (le-ltb low high h))
 
     -- ---- the loop of the search, in the words of the code: what it comes to from here is what the whole search comes to
 

@@ -2,7 +2,7 @@
 -- A lookup is a search that has no table: it asks for the name at a position and goes on by what it is told. So the names that it
 -- reads can be listed and counted, and what it tells depends on no others.
 use Prim.Native.Nat.{ℕ, zero, suc, _+_, _/_, _≤_, _<_}
-use mathlib.Core.Bool.{false, cond}
+use mathlib.Core.Bool.{Bool, false, cond}
 use mathlib.Core.List.{List, [], _∷_}
 use mathlib.Core.Path.{_≡_}
 use lib.ListN.{getD}
@@ -31,12 +31,16 @@ readBy names (asks p next) = p ∷ readBy names (next (names p))
 abbrev pub lookup : ℕ → ℕ → Lookup
 lookup r p = record { rank = r; position = p }
 
+-- is a rank left between low and high
+abbrev pub rankLeft : ℕ → ℕ → Bool
+rankLeft low high = ltb low high
+
 -- for the name x, in an order of n positions, between the ranks low and high, next at rank m, with so many names to read
 unfoldable pub halves : ℕ → List ℕ → ℕ → ℕ → ℕ → ℕ → ℕ → Search
 halves zero order n x low high m = tells (lookup low n)
 halves (suc most) order n x low high m =
     let p = getD order m 0 in
-    cond (ltb low high)
+    cond (rankLeft low high)
     (asks p
     (λ y.
     cond (eqb y x) (tells (lookup m p))

@@ -14,7 +14,7 @@ use Rattle.commands.proofs.force.Lts as lts
 use Rattle.commands.proofs.answer.Reads as answer-reads
 use Rattle.soundness.proofs.memory.refusal.Reads as refusal-reads
 use Rattle.state.proofs.header.shut_by.Reads as shut-by-reads
-use Rattle.commands.proofs.names.mention.Reads as mention-reads
+use Rattle.commands.proofs.mention.Reads as mention-reads
 use Rattle.text.proofs.names.read_name.Reads as read-name-reads
 
 refusal-requires : tie.Need-refusal-requires
