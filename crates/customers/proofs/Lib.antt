@@ -5,3 +5,4 @@ pub mod LoadLaws
 pub mod NameLaws
 pub mod ImageLaws
 pub mod StepLaws
+pub mod ReadLaws

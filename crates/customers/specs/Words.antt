@@ -9,6 +9,7 @@ use Rattle.rules.specs.Limits.{longestFile, workSize}
 use Rattle.rules.specs.Text.{isName, packName}
 use Rattle.rules.specs.Reading.{Module, section, readingOf, itemsOf}
 use Rattle.rules.specs.State.{State, state, unmarked, noWords, placedWords}
+use Rattle.rules.specs.Lookup.{nameAt}
 use Rattle.rules.specs.Load.{progress, walking, searched, walkFrom, takenIn, sectionsIn}
 use Rattle.rules.specs.Image.{imageOf}
 use Rattle.rules.specs.Calls.{holding, workAfter, loadAnswer, callAnswer, endAnswer, symbolAt}
@@ -20,9 +21,11 @@ use Rattle.rules.specs.declared.answer.CallAnswer.{CallAnswer}
 use Rattle.rules.specs.declared.answer.SymbolAnswer.{SymbolAnswer}
 use Rattle.rules.specs.declared.answer.UndefinedAnswer.{UndefinedAnswer}
 use Rattle.rules.specs.declared.answer.EndAnswer.{EndAnswer}
-use Rattle.state.specs.Layout.{size, lent}
+use Rattle.rules.proofs.TestLaws.{Every}
+use Rattle.state.specs.Layout.{size, lent, decode}
 use Rattle.state.specs.Promise.{DemandMet}
 use Rattle.state.specs.Sequence.{Run}
+use Rattle.order.proofs.OrderedLaws.{readIn}
 
 -- state memory has its length
 abbrev pub HasLength : List ℕ → Type 0
@@ -138,3 +141,10 @@ pub record EndKept (before out : List ℕ) (r : EndAnswer) (written : List ℕ) 
 pub record SameEnds (out again : List ℕ) (r q : EndAnswer) (written rewritten : List ℕ) : Type 0 where
   pub answers : r .number ≡ 0 → length again ≡ length out → q ≡ r
   pub images : r .number ≡ 0 → length again ≡ length out → take (q .length) rewritten ≡ take (r .length) written
+
+-- ---- a lookup
+
+-- two tables have as many symbols, and the same name at each position whose name a lookup of x in the first reads
+pub record AgreeOnRead (cells other order : List ℕ) (x : ℕ) : Type 0 where
+  pub count : length (decode other .symbols) ≡ length (decode cells .symbols)
+  pub names : Every (λ p. nameAt (decode cells .symbols) p ≡ nameAt (decode other .symbols) p) (readIn cells order x)
