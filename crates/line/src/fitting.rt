@@ -4,8 +4,8 @@ use crate::fields::read_field;
 use rules::line::Fault;
 use rules::line::FaultKind;
 use rules::line::LineAnswer;
+use text::fields::field_from;
 use text::fields::field_start;
-use text::fields::next_field;
 ghost use mathlib.Core.Bool.{cond};
 ghost use mathlib.Core.List.{map};
 ghost use mathlib.Core.Path.{_≡_};
@@ -50,7 +50,7 @@ pub fn fit(file: &[u8], at: usize, stop: usize, kinds: &[u8]) -> FieldsRead
         if start == stop {
             return misfit(FaultKind::FieldCount, stop - at + 1);
         }
-        let field = next_field(file, start, stop);
+        let field = field_from(file, start, stop);
         match read_field(field, kinds[k]) {
             FieldRead::Value { number, name } => {
                 numbers[k] = number;

@@ -8,6 +8,7 @@ use rules::line::CodeWord;
 use rules::line::FaultKind;
 use rules::line::LineAnswer;
 use rules::line::Relocation;
+use text::fields::field_from;
 use text::fields::field_start;
 use text::fields::next_field;
 use text::markers::is_star;
@@ -88,7 +89,7 @@ fn past_field(file: &[u8], at: usize, stop: usize) -> usize
     ensures { λ r. ⌜ FieldPassed at stop (now (file .entry)) r ⌝ }
 {
     let start = field_start(file, at, stop);
-    start + next_field(file, start, stop).len()
+    start + field_from(file, start, stop).len()
 }
 
 // The third field of the line, as that part of the file.

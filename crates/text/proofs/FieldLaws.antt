@@ -151,6 +151,11 @@ module _ (at stop : ℕ) (file : List ℕ) (i : InFile at stop file) where
       (take-part start stop w file most ∙ ap (λ (k : ℕ). part start k file) (sym width-is))
       (ap₂ fieldsFrom n (drop-part start stop w file ∙ ap (λ (k : ℕ). part k stop file) (sym width-is)))
 
+-- where a field starts, the next one starts there
+pub start-again : (at stop : ℕ) (file : List ℕ) {s : ℕ} → s ≡ fieldStart at stop file → fieldStart s stop file ≡ s
+unfolding fieldStart past
+start-again at stop file {s} e = omega (arith, ap (λ (k : ℕ). run isSpace (part k stop file)) e, past-again isSpace at stop file)
+
 -- the part between the two positions that the scans find is the next field
 pub lends-field : (at stop start end : ℕ) (file r : RefT (List ℕ)) → InFile at stop (now file)
     → start ≡ fieldStart at stop (now file) → end ≡ past (isNot space) start stop (now file)

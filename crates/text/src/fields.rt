@@ -1,6 +1,7 @@
 // The fields of a line.
 use crate::scan::SPACE;
 use crate::scan::find_byte;
+ghost use mathlib.Core.Path.{_≡_};
 ghost use Rattle.text.specs.Scan.{InFile, Found};
 ghost use Rattle.text.specs.FieldBounds.{fieldStart, NextField};
 
@@ -25,6 +26,16 @@ pub fn next_field<'a>(file: &'a [u8], at: usize, stop: usize) -> &'a [u8]
     ensures { λ r. ⌜ NextField at stop (file .entry) r ⌝ }
 {
     let start = field_start(file, at, stop);
+    let end = find_byte(file, start, stop, SPACE);
+    &file[start..end]
+}
+
+// The field that starts at `start`, as that part of the file, where the start is known.
+pub fn field_from<'a>(file: &'a [u8], start: usize, stop: usize) -> &'a [u8]
+    requires { ⌜ InFile start stop (now file) ⌝ }
+    requires { ⌜ fieldStart start stop (now file) ≡ start ⌝ }
+    ensures { λ r. ⌜ NextField start stop (file .entry) r ⌝ }
+{
     let end = find_byte(file, start, stop, SPACE);
     &file[start..end]
 }

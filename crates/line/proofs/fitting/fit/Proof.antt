@@ -4,6 +4,7 @@ use Prim.Native.Nat.{_-_}
 use mathlib.Core.Path.{refl}
 use lib.ListN.{length}
 use borrow.Author.Needs.{needs}
+use Rattle.text.proofs.FieldLaws.{start-again}
 use Rattle.line.proofs.FitLaws.{Kept, kept-start, kept-few, kept-wrong, kept-step, kept-many, kept-end}
 use Rattle.line.proofs.fitting.fit.Statement.{statement}
 use Rattle.line.proofs.fitting.fit.Tie as tie
@@ -32,8 +33,8 @@ misfit-requires c κs = search needs
 returns : tie.Need-returns Inv-loop μ-loop
 returns c = kept-few (c .before .before .before .before .loop .inv) (search needs) (c .before .before .field-start .ensures .is) (c .before .if1 .taken) (c .misfit .ensures)
 
-next-field-requires : tie.Need-next-field-requires Inv-loop μ-loop
-next-field-requires c κs = search needs
+field-from-requires : tie.Need-field-from-requires Inv-loop μ-loop
+field-from-requires c κs = (search needs, start-again _ _ _ (c .before .field-start .ensures .is))
 
 shared-slice-read-read-field : tie.Need-shared-slice-read-read-field Inv-loop μ-loop
 shared-slice-read-read-field c = search needs
@@ -66,7 +67,7 @@ loop-less : tie.Need-loop-less Inv-loop μ-loop
 loop-less c = search needs
 
 loop-again : tie.Need-loop-again Inv-loop μ-loop
-loop-again c = kept-step (c .before .before .before .before .before .before .before .before .before .loop .inv) (search needs) (c .before .before .before .before .before .before .before .field-start .ensures .is) (search needs) (c .before .before .before .before .before .next-field .ensures .bytes) (c .before .before .before .read-field .ensures) (c .before .number .given .1)
+loop-again c = kept-step (c .before .before .before .before .before .before .before .before .before .loop .inv) (search needs) (c .before .before .before .before .before .before .before .field-start .ensures .is) (search needs) (c .before .before .before .before .before .field-from .ensures .bytes) (c .before .before .before .read-field .ensures) (c .before .number .given .1)
 
 enum-known-fault : tie.Need-enum-known-fault Inv-loop μ-loop
 enum-known-fault c = search needs
@@ -81,7 +82,7 @@ misfit-requires-2 : tie.Need-misfit-requires-2 Inv-loop μ-loop
 misfit-requires-2 c κs = search needs
 
 returns-2 : tie.Need-returns-2 Inv-loop μ-loop
-returns-2 c = kept-wrong (c .before .before .before .before .before .before .before .before .before .before .loop .inv) (search needs) (c .before .before .before .before .before .before .before .before .field-start .ensures .is) (search needs) (c .before .before .before .before .before .before .next-field .ensures .bytes) (c .before .before .before .before .read-field .ensures) (c .before .before .fault .given .1) (c .misfit2 .ensures)
+returns-2 c = kept-wrong (c .before .before .before .before .before .before .before .before .before .before .loop .inv) (search needs) (c .before .before .before .before .before .before .before .before .field-start .ensures .is) (search needs) (c .before .before .before .before .before .before .field-from .ensures .bytes) (c .before .before .before .before .read-field .ensures) (c .before .before .fault .given .1) (c .misfit2 .ensures)
 
 field-start-requires-2 : tie.Need-field-start-requires-2 Inv-loop μ-loop
 field-start-requires-2 c κs = search needs
@@ -113,7 +114,7 @@ fit-spec =
     add-misfit
     misfit-requires
     returns
-    next-field-requires
+    field-from-requires
     shared-slice-read-read-field
     read-field-requires
     enum-known-number
