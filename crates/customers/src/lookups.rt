@@ -7,8 +7,8 @@ ghost use Rattle.state.specs.Good.{Good};
 ghost use Rattle.order.specs.Order.{size};
 ghost use Rattle.customers.specs.Words.{AgreeOnRead};
 
-// Two tables that agree on the at most nine names that a lookup reads are told the same, whatever the order is and whatever else
-// stands in them.
+// Two tables of as many symbols that agree on the names which a lookup reads, nine at most, are told the same, whatever the order is
+// and whatever else stands in them.
 pub fn same_told(state: &[u64], other: &[u64], order: &[u8], name: u64) -> bool
     requires { ⌜ Good (now state) × Good (now other) ⌝ }
     requires { ⌜ length (now order) ≡ size ⌝ }
