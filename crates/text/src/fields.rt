@@ -30,12 +30,12 @@ pub fn next_field<'a>(file: &'a [u8], at: usize, stop: usize) -> &'a [u8]
     &file[start..end]
 }
 
-// The field that starts at `start`, as that part of the file, where the start is known.
-pub fn field_from<'a>(file: &'a [u8], start: usize, stop: usize) -> &'a [u8]
-    requires { ⌜ InFile start stop (now file) ⌝ }
-    requires { ⌜ fieldStart start stop (now file) ≡ start ⌝ }
-    ensures { λ r. ⌜ NextField start stop (file .entry) r ⌝ }
+// The field of the line that starts at `from`, as that part of the file, where the start is known.
+pub fn field_from<'a>(file: &'a [u8], from: usize, stop: usize) -> &'a [u8]
+    requires { ⌜ InFile from stop (now file) ⌝ }
+    requires { ⌜ fieldStart from stop (now file) ≡ from ⌝ }
+    ensures { λ r. ⌜ NextField from stop (file .entry) r ⌝ }
 {
-    let end = find_byte(file, start, stop, SPACE);
-    &file[start..end]
+    let end = find_byte(file, from, stop, SPACE);
+    &file[from..end]
 }
