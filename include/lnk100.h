@@ -11,7 +11,7 @@
  *     read or written. A copy of state memory is the same link, so it may be saved and taken back.
  *   - The memories lent to one call must not overlap, and nobody may write them while it runs. A pointer may be null where its length
  *     is 0. Calls on different memory may run at the same time.
- *   - lnk100_load needs 340 KB of stack, each other call 8 KB.
+ *   - lnk100_load needs 340 KB of stack, each other call 9 KB.
  *
  * Answers. `number` is 0 (LNK100_DONE) or tells why the call was refused. In a refused answer every field but `number` and `line` is 0:
  * test `number` first. `line` is the file's line, from 1, where lnk100_load is refused by 6 to 14, and else 0.

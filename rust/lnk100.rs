@@ -2,7 +2,7 @@
 //! the calls are lent and holds no linking logic. `examples/link.rs` is a whole program.
 //!
 //! What each call promises stands in include/lnk100.h. `scripts/declarations.sh`, with which the gate begins, holds the declarations and
-//! constants here, as those there, to the Rattle source. `Linker::load` needs 340 KB of stack, each other call 8 KB.
+//! constants here, as those there, to the Rattle source. `Linker::load` needs 340 KB of stack, each other call 9 KB.
 #![allow(dead_code)]
 
 pub const STATE_CELLS: usize = 8708;

@@ -1,7 +1,8 @@
 #!/usr/bin/env bash
-# Shows that every lookup of a name in the table is `look_up`'s of crate order, which reads at most nine of its names
-# (docs/PROMISES.md, 02 r2 2). It looks for each place in the crates of the linker that reads a name of the table; there are six, and
-# one of them alone is a search. Anything else, and the status is 1. It compares texts and takes no time.
+# Looks whether every lookup of a name in the table is by the search of crate order, which reads at most nine of its names
+# (docs/PROMISES.md, 02 r2 2). It looks for each place in the crates of the linker that reads a name of the table; beside the test of
+# soundness there are six, and one of them alone is a search. If there is another, the status is 1. It compares texts and takes no
+# time. It knows state memory by the name `state`, and a name by `name`: what called them otherwise would escape it.
 #
 #   scripts/lookups.sh
 set -eu
@@ -50,4 +51,4 @@ if [ "$found" != "$expected" ]; then
 fi
 echo "A name of the table is read by a turn of the search (order seek), as the order and its hints are made (order make, hint_all), of"
 echo "each undefined symbol that is looked for among a section's entries (search mark_undefined), and of the symbol at an index that is"
-echo "listed (listings symbols, undefined); nowhere else."
+echo "listed (listings symbols, undefined); nowhere else but in the test of soundness, which compares the names with each other."

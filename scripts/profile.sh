@@ -56,7 +56,7 @@ counted() { valgrind --tool=callgrind --callgrind-out-file=/dev/null "$built" --
 one_call() { echo $(($(counted "$1" "$2" 2) - $(counted "$1" "$2" 1))); }
 # instructions of one call by function: a number and a name to a line, the total first
 by_function() {
-    valgrind --tool=callgrind --callgrind-out-file="$out/row" --toggle-collect=lnk100_load --toggle-collect=lnk100_end \
+    valgrind --tool=callgrind --callgrind-out-file="$out/row" --toggle-collect=lnk100_load --toggle-collect=lnk100_force --toggle-collect=lnk100_end \
         --toggle-collect=lnk100_memory "$apart" --play "$1" verified > "$out/log" 2>&1
     callgrind_annotate --threshold=100 "$out/row" 2> /dev/null | grep -E '^ *[0-9,]+ \(' \
         | sed -E 's/ \[.*//; s/\?\?\?://; s,[^ ]*/,,; s/^ *([0-9,]+) \([^)]*\) +/\1 /; s/,//g; s/PROGRAM TOTALS/total/; s/ .*(memset|memcpy|memmove).*/ memory::functions/'

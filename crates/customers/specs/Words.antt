@@ -25,7 +25,7 @@ use Rattle.rules.proofs.TestLaws.{Every}
 use Rattle.state.specs.Layout.{size, lent, decode}
 use Rattle.state.specs.Promise.{DemandMet}
 use Rattle.state.specs.Sequence.{Run}
-use Rattle.order.proofs.OrderedLaws.{readIn}
+use Rattle.order.specs.Order.{readIn}
 
 -- state memory has its length
 abbrev pub HasLength : List ℕ → Type 0

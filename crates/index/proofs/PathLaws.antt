@@ -3,10 +3,13 @@ use Prim.Native.Nat.{ℕ, zero, suc, _+_, _-_, _*_, _/_, _%_, _^_, _<_, _≤_}
 use native.Mathlib.Nat.{pow-suc}
 use native.Mathlib.Omega.{arith}
 use native.Mathlib.Decide.{ℕ-discrete, decLt}
+use mathlib.Core.Bool.{true}
 use mathlib.Core.List.{List}
 use mathlib.Core.Logic.{_≢_}
 use mathlib.Core.Path.{_≡_, sym, ap, _∙_}
 use lib.ListN.{getD}
+use Rattle.rules.specs.Text.{isPacked}
+use Rattle.rules.proofs.NameLaws.{packed}
 use Rattle.index.specs.Index.{slotOf, bitsAt, linkOf, cellAt, countOf, nameAt, Link, Passed, Reached, Indexed, Sought}
 use Rattle.index.proofs.SeekLaws.{cell-start, cell-next, bits-start, bits-next, passed-less, cell-link}
 
@@ -115,10 +118,8 @@ module _ {parts index : List ℕ} (g : Indexed parts index) where
         absurd (s .others b l (own-met b y names small p (s .passed .met b l)))
   ]
 
-  -- numbers of 48 bits have quotients of 38: at most 39 entries
-  pub short-48 : NamesBelow parts index (2 ^ 48) → {y at : ℕ} → y < 2 ^ 48 → (s : Sought parts index y at) → s .depth ≤ 38
-  short-48 names small s = search-short 38 (λ j l. omega (arith, names j l)) (omega (arith, small)) s
-
-  -- those whose first byte is at most a Z, 90, have quotients of 36: at most 37 entries
-  pub short-letters : NamesBelow parts index (91 * 256 ^ 5) → {y at : ℕ} → y < 91 * 256 ^ 5 → (s : Sought parts index y at) → s .depth ≤ 36
-  short-letters names small s = search-short 36 (λ j l. omega (arith, names j l)) (omega (arith, small)) s
+  -- legal names have 48 bits, and so quotients of 38: a search for one, among such, meets at most 39 entries
+  pub short-legal : ((j : ℕ) → j < countOf index → isPacked (nameAt parts index j) ≡ true) → {y at : ℕ} → isPacked y ≡ true →
+      (s : Sought parts index y at) → s .depth ≤ 38
+  short-legal names {y} legal s =
+      search-short 38 (λ j l. omega (arith, packed (nameAt parts index j) (names j l) .below)) (omega (arith, packed y legal .below)) s

@@ -5,8 +5,8 @@
 //
 // The entries of a slot are a tree. A search begins at the slot and compares the names of the entries that it meets; from each it goes
 // on to one of the two links, by the next bit of the name's quotient, the lowest first. A new entry is put where the search for its
-// name ends. So no choice of names costs more: two names of one slot differ in a bit of the quotient, where their ways part. Names
-// of 48 bits have quotients of 38 bits, and a search meets at most 39 entries (proofs/PathLaws).
+// name ends. So no choice of names costs more: two names of one slot differ in a bit of the quotient, where their ways part. Legal
+// names have 48 bits and their quotients 38, and a search meets at most 39 entries (proofs/PathLaws).
 use tables::cells::body_at;
 use tables::cells::head_at;
 use tables::heads::is_entry;

@@ -89,6 +89,7 @@ pub struct Mentions {
     pub at: [u16; EXTERNAL_ROOM],
 }
 
+// Mentions the externals in their order, up to one for which the table has no room.
 pub fn mention_all(parts: &[u64], order: &mut [u8], state: &mut [u64]) -> Mentions
     requires { ⌜ length (externalsIn (partsOf (now parts))) ≤ mostExternals ⌝ }
     requires { ⌜ Good (now state) × Ordered (now state) (now order) ⌝ }

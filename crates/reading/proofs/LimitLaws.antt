@@ -65,7 +65,7 @@ lines-count text = omega (arith, lines-weight text, length-weight (linesOf text)
 
 -- ---- what the reading has paid for in advance
 
--- an END header before its title, an LSB header before its LEB
+-- an END header before its title, an LSB header before its LEB: seven bytes, six and the end of the line
 unfoldable pub awaited : Expected → ℕ
 awaited AnyHeader = 0
 awaited OpeningTitle = 0

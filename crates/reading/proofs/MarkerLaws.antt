@@ -22,6 +22,7 @@ use Rattle.rules.proofs.BoolLaws.{cond-cases}
 
 -- ---- the bytes of a line's fields
 
+-- how many they are, without the spaces between
 unfoldable textBytes : List Field → ℕ
 textBytes [] = 0
 textBytes (f ∷ fs) = length (f .text) + textBytes fs
@@ -55,7 +56,7 @@ same-long [] (y ∷ b) e = absurd (true≢false (sym e))
 same-long (x ∷ a) [] e = absurd (true≢false (sym e))
 same-long (x ∷ a) (y ∷ b) e = omega (arith, same-long a b (and-right (eqb x y) _ e))
 
--- fields that fit have so many bytes
+-- where fields of n bytes fit, they are six bytes or more
 abbrev Marked : ℕ → Fitted → Type 0
 Marked n (fits vs) = 6 ≤ n
 Marked n (misfit f) = Unit {0}
@@ -100,6 +101,7 @@ Long n Ignored = Unit {0}
 Long n (Parameter s) = Unit {0}
 Long n Sub = Unit {0}
 
+-- the marker of a row, and of a row that was found, has six bytes or more
 abbrev RowLong : Row → Type 0
 RowLong r = 6 ≤ length (markerOf (r .code))
 

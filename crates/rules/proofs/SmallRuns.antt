@@ -508,16 +508,17 @@ looking order text =
     let s = lookUp order 5 2 (name text) in
     (answered (nameAt mentioned) s, readBy (nameAt mentioned) s)
 
--- a table of 256 symbols that are in order
+-- the numbers below n, which are the order of a table whose names rise
 pub upTo : ℕ → List ℕ
 upTo zero = []
 upTo (suc n) = upTo n ++ (n ∷ [])
 
+-- the positions that a lookup reads in a table of 256 such names, the even numbers
 abbrev reading : ℕ → ℕ → List ℕ
 reading first x = readBy (λ p. 2 * p) (lookUp (upTo 256) 256 first x)
 
--- each of five names; a name below all, between two and above all; an order that is wrong; no names; nine names and eight of 256 from
--- the middle; from elsewhere one, and nine
+-- each of five names; a name below all, between two and above all; an order that is wrong; no names; the name past the last; nine names
+-- and eight of 256 from the middle; from elsewhere one, and nine
 abbrev Lookups : Type 0
 Lookups =
     (looking byName "F" ≡ (lookup 2 4, 4 ∷ []))

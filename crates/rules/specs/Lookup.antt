@@ -28,6 +28,7 @@ readBy names (asks p next) = p ∷ readBy names (next (names p))
 
 -- ---- the search by halves
 
+-- what is told: a rank and a position
 abbrev pub lookup : ℕ → ℕ → Lookup
 lookup r p = record { rank = r; position = p }
 

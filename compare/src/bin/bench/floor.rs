@@ -17,7 +17,7 @@ pub fn end(state: &[u64], image: &mut [u8]) {
 }
 
 /// Reads the state once.
-pub fn memory(state: &[u64]) {
+pub fn state(state: &[u64]) {
     read_cells(state);
 }
 

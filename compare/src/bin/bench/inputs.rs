@@ -23,6 +23,7 @@ pub struct Input {
 
 pub enum Job {
     Load(Vec<u8>),
+    Force(Vec<u8>),
     End,
     Memory,
 }
@@ -47,6 +48,7 @@ pub const ROWS: &[Row] = &[
     Row { label: "LOAD of a section of one remainder", input: entries_of_one_remainder },
     Row { label: "LOAD refused at its last line (6)", input: refused_by_reading },
     Row { label: "LOAD refused at its last module (13)", input: refused_by_walk },
+    Row { label: "FORCE of an old name, table of 250", input: force_old },
     Row { label: "END", input: end },
     Row { label: "MEMORY of a full state", input: memory },
     Row { label: "MEMORY of an empty state", input: memory_of_nothing },
@@ -195,6 +197,13 @@ fn refused_by_walk(divisor: usize) -> Input {
     let mut file = modules_file(LONGEST_FILE / divisor - again.len()).trim_end().to_string();
     file = padded(file + "\n" + again, LONGEST_FILE / divisor);
     Input { size: format!("{} bytes", file.len()), state: fresh(), job: Job::Load(file.into()), expected: 13 }
+}
+
+/// The name that was mentioned last.
+fn force_old(divisor: usize) -> Input {
+    let names = scattered_names(SCATTERED / divisor);
+    let name = names[names.len() - 1].to_string();
+    Input { size: format!("{} symbols", names.len()), state: state_of(&names), job: Job::Force(name.into()), expected: 0 }
 }
 
 fn end(divisor: usize) -> Input {

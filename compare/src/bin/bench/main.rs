@@ -121,7 +121,7 @@ fn explain(runs: usize) {
         "- Rust own: the same linker on its own structures, with no lent memory and no test of it, for information."
     );
     println!("- floor: one pass over the same bytes and cells, with nothing done to them. LOAD: file and state read, work memory");
-    println!("  cleared; END: state read, image written; MEMORY: state read.");
+    println!("  cleared; END: state read, image written; FORCE and MEMORY: state read.");
     println!("- Buffers: one state, one work memory and one output, lent to each in turn. Before each run the state is copied back,");
     println!("  which is not timed and leaves it in the cache; work memory is zero, as the run before left it.");
     println!("- Up to {runs} runs of each, alternating; medians.");
@@ -163,6 +163,7 @@ fn run_lent(calls: &dyn Calls, input: &Input, memory: &mut Memory) -> Duration {
     let start = Instant::now();
     let number = match &input.job {
         Job::Load(file) => calls.load(state, work, file).number,
+        Job::Force(name) => calls.force(state, name).number,
         Job::End => calls.end(state, out).number,
         Job::Memory => calls.memory(state).number,
     };
@@ -175,6 +176,7 @@ fn run_own(mut linker: Linker, input: &Input, memory: &mut Memory) -> Duration {
     let start = Instant::now();
     let number = match &input.job {
         Job::Load(file) => linker.load(file).map_or_else(|refusal| refusal.number(), |_| 0),
+        Job::Force(name) => linker.force(name).map_or_else(|refusal| refusal.number(), |_| 0),
         Job::End => linker.end(&mut memory.out).map_or_else(|refusal| refusal.number(), |_| 0),
         Job::Memory => {
             black_box(black_box(&linker).high());
@@ -193,7 +195,7 @@ fn run_floor(input: &Input, memory: &mut Memory) -> Duration {
     match &input.job {
         Job::Load(file) => floor::load(&memory.state, &mut memory.work, file),
         Job::End => floor::end(&memory.state, &mut memory.out[..image]),
-        Job::Memory => floor::memory(&memory.state),
+        Job::Force(_) | Job::Memory => floor::state(&memory.state),
     }
     start.elapsed()
 }
