@@ -131,60 +131,64 @@ module _ (names : ℕ → ℕ) where
       pub fits : Fits left low high m
       pub least : low ≤ high
       pub most : high ≤ n
+      pub few : n ≤ 256
       pub is : to left low high m ≡ whole
 
-    pub halving-start : {first : ℕ} → n ≤ 256 → first ≤ n - 1 → Halving (answered names (lookUp order n first x)) 0 n first
-    unfolding lookUp
-    halving-start h f =
-        record { left = mostNames; fits = fits-start n _ h f; least = omega arith; most = omega arith; is = refl }
+pub halving-start : {names : ℕ → ℕ} {order : List ℕ} {n x first : ℕ} → n ≤ 256 → first ≤ n - 1 →
+    Halving names order n x (answered names (lookUp order n first x)) 0 n first
+unfolding lookUp
+halving-start {names} {order} {n} {x} {first} h f =
+    record { left = mostNames; fits = fits-start n first h f; least = omega arith; most = omega arith; few = h; is = refl }
 
-    module _ {whole : Lookup} {low high m : ℕ} (g : Halving whole low high m) where
-      pub halving-end : high ≤ low → lookup low n ≡ whole
-      halving-end h = sym (turn-end (g .left) low high m h) ∙ g .is
+module _ {names : ℕ → ℕ} {order : List ℕ} {n x : ℕ} {whole : Lookup} {low high m : ℕ} (g : Halving names order n x whole low high m) where
+  pub halving-end : high ≤ low → lookup low n ≡ whole
+  halving-end h = sym (turn-end names order n x (g .left) low high m h) ∙ g .is
 
-      module _ (h : low < high) where
-        pub halving-inside : (low ≤ m) × (m < high)
-        halving-inside = go (g .left) (g .fits)
-          where
-            go : (k : ℕ) → Fits k low high m → (low ≤ m) × (m < high)
-            go zero f = absurd (omega arith)
-            go (suc k) f = (f h .0, f h .1)
+  module _ (h : low < high) where
+    pub halving-inside : (low ≤ m) × (m < high) × (high ≤ 256)
+    halving-inside = go (g .left) (g .fits)
+      where
+        go : (k : ℕ) → Fits k low high m → (low ≤ m) × (m < high) × (high ≤ 256)
+        go zero f = absurd (omega arith)
+        go (suc k) f = (f h .0, f h .1, omega (arith, g .most, g .few))
 
-        module _ {p : ℕ} (b : p ≡ getD order m 0) where
-          pub halving-found : names p ≡ x → lookup m p ≡ whole
-          halving-found e = go (g .left) (g .fits) (g .is)
-            where
-              go : (k : ℕ) → Fits k low high m → to k low high m ≡ whole → lookup m p ≡ whole
-              go zero f q = absurd (omega arith)
-              go (suc k) f q = ap (lookup m) b ∙ sym (turn-found k low high m h (ap names (sym b) ∙ e)) ∙ q
+    module _ {p : ℕ} (b : p ≡ getD order m 0) where
+      pub halving-found : names p ≡ x → lookup m p ≡ whole
+      halving-found e = go (g .left) (g .fits) (g .is)
+        where
+          go : (k : ℕ) → Fits k low high m → to names order n x k low high m ≡ whole → lookup m p ≡ whole
+          go zero f q = absurd (omega arith)
+          go (suc k) f q = ap (lookup m) b ∙ sym (turn-found names order n x k low high m h (ap names (sym b) ∙ e)) ∙ q
 
-          pub halving-up : names p < x → {m′ : ℕ} → m′ ≡ (m + 1 + high) / 2 → Halving whole (m + 1) high m′
-          halving-up l {m′} e = go (g .left) (g .fits) (g .is)
-            where
-              go : (k : ℕ) → Fits k low high m → to k low high m ≡ whole → Halving whole (m + 1) high m′
-              go zero f q = absurd (omega arith)
-              go (suc k) f q =
-                  record {
-                    left = k;
-                    fits = fits-up k low high m h f e;
-                    least = omega (arith, f h .1);
-                    most = g .most;
-                    is = ap (to k (m + 1) high) e ∙ sym (turn-up k low high m h (subst (λ (y : ℕ). names y < x) b l)) ∙ q;
-                  }
+      pub halving-up : names p < x → {m′ : ℕ} → m′ ≡ (m + 1 + high) / 2 → Halving names order n x whole (m + 1) high m′
+      halving-up l {m′} e = go (g .left) (g .fits) (g .is)
+        where
+          go : (k : ℕ) → Fits k low high m → to names order n x k low high m ≡ whole → Halving names order n x whole (m + 1) high m′
+          go zero f q = absurd (omega arith)
+          go (suc k) f q =
+              record {
+                left = k;
+                fits = fits-up k low high m h f e;
+                least = omega (arith, f h .1);
+                most = g .most;
+                few = g .few;
+                is = ap (to names order n x k (m + 1) high) e ∙ sym (turn-up names order n x k low high m h (subst (λ (y : ℕ). names y < x) b l)) ∙ q;
+              }
 
-          pub halving-down : x < names p → {m′ : ℕ} → m′ ≡ (low + m) / 2 → Halving whole low m m′
-          halving-down l {m′} e = go (g .left) (g .fits) (g .is)
-            where
-              go : (k : ℕ) → Fits k low high m → to k low high m ≡ whole → Halving whole low m m′
-              go zero f q = absurd (omega arith)
-              go (suc k) f q =
-                  record {
-                    left = k;
-                    fits = fits-down k low high m h f e;
-                    least = f h .0;
-                    most = omega (arith, f h .1, g .most);
-                    is = ap (to k low m) e ∙ sym (turn-down k low high m h (subst (λ (y : ℕ). x < names y) b l)) ∙ q;
-                  }
+      pub halving-down : x < names p → {m′ : ℕ} → m′ ≡ (low + m) / 2 → Halving names order n x whole low m m′
+      halving-down l {m′} e = go (g .left) (g .fits) (g .is)
+        where
+          go : (k : ℕ) → Fits k low high m → to names order n x k low high m ≡ whole → Halving names order n x whole low m m′
+          go zero f q = absurd (omega arith)
+          go (suc k) f q =
+              record {
+                left = k;
+                fits = fits-down k low high m h f e;
+                least = f h .0;
+                most = omega (arith, f h .1, g .most);
+                few = g .few;
+                is = ap (to names order n x k low m) e ∙ sym (turn-down names order n x k low high m h (subst (λ (y : ℕ). x < names y) b l)) ∙ q;
+              }
 
 -- ---- in an order it finds what is there
 
