@@ -35,13 +35,18 @@ returns-2 : tie.Need-returns-2
 returns-2 c = part-again _ _ (c .before .before .before .before .before .before .before .before .before .before .pre .1 .0) (sym (c .before .before .before .before .before .before .is-entry .ensures ∙ ap isEntry (c .before .before .before .before .before .before .before .head-at .ensures)) ∙ not-false _ (c .before .before .before .before .before .if1 .left)) (c .before .before .before .body-at .ensures) (c .before .before .seek .ensures) (c .if2 .taken)
 
 enter-requires : tie.Need-enter-requires
-enter-requires c κs = let p = c .before .before .before .before .before .before .before .before .before .before .before .pre in let at = c .before .before .before .seek .ensures .link in ((omega (arith, at .most, p .1 .0 .few), p .0 .0, p .0 .1), (p .1 .0 .long, p .1 .1 (sym (c .before .before .before .before .before .before .before .is-entry .ensures ∙ ap isEntry (c .before .before .before .before .before .before .before .before .head-at .ensures)) ∙ not-false _ (c .before .before .before .before .before .before .if1 .left))))
+enter-requires c κs =
+    let p = c .before .before .before .before .before .before .before .before .before .before .before .pre in
+    let at = c .before .before .before .seek .ensures .link in
+    ((omega (arith, at .most, p .1 .0 .few), p .0 .0, p .0 .1), (p .1 .0 .long, p .1 .1 (sym (c .before .before .before .before .before .before .before .is-entry .ensures ∙ ap isEntry (c .before .before .before .before .before .before .before .before .head-at .ensures)) ∙ not-false _ (c .before .before .before .before .before .before .if1 .left))))
 
 same-length-2 : tie.Need-same-length-2
 same-length-2 c = search needs
 
 returns-3 : tie.Need-returns-3
-returns-3 c = let p = c .before .before .before .before .before .before .before .before .before .before .before .before .before .before .pre in part-new _ _ (p .1 .0) (sym (c .before .before .before .before .before .before .before .before .before .before .is-entry .ensures ∙ ap isEntry (c .before .before .before .before .before .before .before .before .before .before .before .head-at .ensures)) ∙ not-false _ (c .before .before .before .before .before .before .before .before .before .if1 .left)) (c .before .before .before .before .before .before .before .body-at .ensures) (c .before .before .before .before .before .before .seek .ensures) (p .0 .1) (p .1 .1) (c .before .before .before .before .if2 .left) (c .before .before .enter .ensures)
+returns-3 c =
+    let p = c .before .before .before .before .before .before .before .before .before .before .before .before .before .before .pre in
+    part-new _ _ (p .1 .0) (sym (c .before .before .before .before .before .before .before .before .before .before .is-entry .ensures ∙ ap isEntry (c .before .before .before .before .before .before .before .before .before .before .before .head-at .ensures)) ∙ not-false _ (c .before .before .before .before .before .before .before .before .before .if1 .left)) (c .before .before .before .before .before .before .before .body-at .ensures) (c .before .before .before .before .before .before .seek .ensures) (p .0 .1) (p .1 .1) (c .before .before .before .before .if2 .left) (c .before .before .enter .ensures)
 
 pub add-part-spec : {M : Type 1} → statement M
 add-part-spec =

@@ -34,7 +34,9 @@ same-length : tie.Need-same-length Inv-loop μ-loop
 same-length c = c .before .loop .inv .1 .long ∙ sym (c .before .before .pre)
 
 returns : tie.Need-returns Inv-loop μ-loop
-returns c = let all : c .before .loop .i ≡ 2048 = omega (arith, c .loop-test .left, c .before .loop .inv .0) in subst (λ i. Cleared i (c .before .loop .index)) all (c .before .loop .inv .1)
+returns c =
+    let all : c .before .loop .i ≡ 2048 = omega (arith, c .loop-test .left, c .before .loop .inv .0) in
+    subst (λ i. Cleared i (c .before .loop .index)) all (c .before .loop .inv .1)
 
 pub clear-spec : {M : Type 1} → statement M
 clear-spec =

@@ -26,7 +26,10 @@ cast-result : tie.Need-cast-result
 cast-result c = search (cell-fits (c .before .args .index .now) (c .shared-slice-known .given))
 
 returns : tie.Need-returns
-returns c = let a = c .before .args in let at : 2044 + 4 * a .k + 3 ≡ 2048 + 4 * (a .k - 1) + 3 = omega (arith, c .before .pre .1) in ap (λ i. getD (a .index .now) i 0) at
+returns c =
+    let a = c .before .args in
+    let at : 2044 + 4 * a .k + 3 ≡ 2048 + 4 * (a .k - 1) + 3 = omega (arith, c .before .pre .1) in
+    ap (λ i. getD (a .index .now) i 0) at
 
 pub owner-spec : {M : Type 1} → statement M
 owner-spec =

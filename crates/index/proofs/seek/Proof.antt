@@ -27,46 +27,81 @@ loop-holds : tie.Need-loop-holds Inv-loop μ-loop
 loop-holds c = seek-start (c .before .before .before .pre) _ refl refl refl
 
 mul-entry : tie.Need-mul-entry Inv-loop μ-loop
-mul-entry c = let g = c .before .before .before .before .before .pre in let l = c .before .loop in omega (arith, seek-most g _ (l .inv), g .few)
+mul-entry c =
+    let g = c .before .before .before .before .before .pre in
+    let l = c .before .loop in
+    omega (arith, seek-most g _ (l .inv), g .few)
 
 add-entry : tie.Need-add-entry Inv-loop μ-loop
-add-entry c = let g = c .before .before .before .before .before .pre in let l = c .before .loop in omega (arith, seek-most g _ (l .inv), g .few)
+add-entry c =
+    let g = c .before .before .before .before .before .pre in
+    let l = c .before .loop in
+    omega (arith, seek-most g _ (l .inv), g .few)
 
 mul-body-at : tie.Need-mul-body-at Inv-loop μ-loop
-mul-body-at c = let g = c .before .before .before .before .before .pre in let l = c .before .loop in omega (arith, seek-most g _ (l .inv), g .few)
+mul-body-at c =
+    let g = c .before .before .before .before .before .pre in
+    let l = c .before .loop in
+    omega (arith, seek-most g _ (l .inv), g .few)
 
 shared-slice-read-body-at : tie.Need-shared-slice-read-body-at Inv-loop μ-loop
-shared-slice-read-body-at c = let g = c .before .before .before .before .before .before .pre in let l = c .before .before .loop in omega (arith, seek-most g _ (l .inv), g .few, g .long)
+shared-slice-read-body-at c =
+    let g = c .before .before .before .before .before .before .pre in
+    let l = c .before .before .loop in
+    omega (arith, seek-most g _ (l .inv), g .few, g .long)
 
 cast-body-at : tie.Need-cast-body-at Inv-loop μ-loop
 cast-body-at c = search (cell-fits (c .before .before .before .before .before .before .args .index .now) (c .shared-slice-known4 .given))
 
 body-at-requires : tie.Need-body-at-requires Inv-loop μ-loop
-body-at-requires c κs = let l = c .before .before .loop in omega (arith, c .shared-slice-known4 .given (2044 + 4 * l .k))
+body-at-requires c κs =
+    let l = c .before .before .loop in
+    omega (arith, c .shared-slice-known4 .given (2044 + 4 * l .k))
 
 returns : tie.Need-returns Inv-loop μ-loop
-returns c = let g = c .before .before .before .before .before .before .before .before .pre in let l = c .before .before .before .before .loop in seek-here g _ (l .inv) (c .before .before .before .loop-test .taken) (sym (c .before .body-at .ensures) ∙ c .if1 .taken)
+returns c =
+    let g = c .before .before .before .before .before .before .before .before .pre in
+    let l = c .before .before .before .before .loop in
+    seek-here g _ (l .inv) (c .before .before .before .loop-test .taken) (sym (c .before .body-at .ensures) ∙ c .if1 .taken)
 
 add-at-2 : tie.Need-add-at-2 Inv-loop μ-loop
-add-at-2 c = let g = c .before .before .before .before .before .before .before .before .pre in let l = c .before .before .before .before .loop in omega (arith, seek-most g _ (l .inv), g .few)
+add-at-2 c =
+    let g = c .before .before .before .before .before .before .before .before .pre in
+    let l = c .before .before .before .before .loop in
+    omega (arith, seek-most g _ (l .inv), g .few)
 
 add-at-3 : tie.Need-add-at-3 Inv-loop μ-loop
-add-at-3 c = let g = c .before .before .before .before .before .before .before .before .pre in let l = c .before .before .before .before .loop in omega (arith, seek-most g _ (l .inv), g .few)
+add-at-3 c =
+    let g = c .before .before .before .before .before .before .before .before .pre in
+    let l = c .before .before .before .before .loop in
+    omega (arith, seek-most g _ (l .inv), g .few)
 
 mul-k-2 : tie.Need-mul-k-2 Inv-loop μ-loop
-mul-k-2 c = let g = c .before .before .before .before .before .before .before .before .pre in let l = c .before .before .before .before .loop in omega (arith, seek-most g _ (l .inv), g .few)
+mul-k-2 c =
+    let g = c .before .before .before .before .before .before .before .before .pre in
+    let l = c .before .before .before .before .loop in
+    omega (arith, seek-most g _ (l .inv), g .few)
 
 shared-slice-read-k-2 : tie.Need-shared-slice-read-k-2 Inv-loop μ-loop
-shared-slice-read-k-2 c = let g = c .before .before .before .before .before .before .before .before .before .pre in let l = c .before .before .before .before .before .loop in omega (arith, seek-most g _ (l .inv), g .few, g .long)
+shared-slice-read-k-2 c =
+    let g = c .before .before .before .before .before .before .before .before .before .pre in
+    let l = c .before .before .before .before .before .loop in
+    omega (arith, seek-most g _ (l .inv), g .few, g .long)
 
 cast-k-2 : tie.Need-cast-k-2 Inv-loop μ-loop
 cast-k-2 c = search (cell-fits (c .before .before .before .before .before .before .before .before .before .args .index .now) (c .shared-slice-known5 .given))
 
 loop-less : tie.Need-loop-less Inv-loop μ-loop
-loop-less c = let g = c .before .before .before .before .before .before .before .before .before .pre in let l = c .before .before .before .before .before .loop in omega (arith, seek-later g _ (l .inv) (c .before .before .before .before .loop-test .taken), seek-low g _ (l .inv))
+loop-less c =
+    let g = c .before .before .before .before .before .before .before .before .before .pre in
+    let l = c .before .before .before .before .before .loop in
+    omega (arith, seek-later g _ (l .inv) (c .before .before .before .before .loop-test .taken), seek-low g _ (l .inv))
 
 loop-again : tie.Need-loop-again Inv-loop μ-loop
-loop-again c = let g = c .before .before .before .before .before .before .before .before .before .pre in let l = c .before .before .before .before .before .loop in seek-next g _ (l .inv) (c .before .before .before .before .loop-test .taken) (λ e. c .before .if1 .left (c .before .before .body-at .ensures ∙ e)) refl refl refl
+loop-again c =
+    let g = c .before .before .before .before .before .before .before .before .before .pre in
+    let l = c .before .before .before .before .before .loop in
+    seek-next g _ (l .inv) (c .before .before .before .before .loop-test .taken) (λ e. c .before .if1 .left (c .before .before .body-at .ensures ∙ e)) refl refl refl
 
 returns-2 : tie.Need-returns-2 Inv-loop μ-loop
 returns-2 c = seek-none (c .before .before .before .before .before .pre) _ (c .before .loop .inv) (c .loop-test .left)

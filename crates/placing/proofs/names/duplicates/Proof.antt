@@ -27,7 +27,10 @@ is-repeated-requires : tie.Need-is-repeated-requires Inv-loop μ-loop
 is-repeated-requires c κs = search needs
 
 returns : tie.Need-returns Inv-loop μ-loop
-returns c = let l = c .before .before .before .loop in let a = c .before .before .before .before .before .before .before .args in repeated-turn (a .parts .now) (l .i) (omega arith) (decode (a .state .now) .symbols) (l .inv .2) (c .before .is-repeated .ensures) (c .if1 .taken)
+returns c =
+    let l = c .before .before .before .loop in
+    let a = c .before .before .before .before .before .before .before .args in
+    repeated-turn (a .parts .now) (l .i) (omega arith) (decode (a .state .now) .symbols) (l .inv .2) (c .before .is-repeated .ensures) (c .if1 .taken)
 
 add-i : tie.Need-add-i Inv-loop μ-loop
 add-i c = omega arith
@@ -36,10 +39,16 @@ loop-less : tie.Need-loop-less Inv-loop μ-loop
 loop-less c = omega arith
 
 loop-again : tie.Need-loop-again Inv-loop μ-loop
-loop-again c = let l = c .before .before .before .loop in let a = c .before .before .before .before .before .before .before .args in (omega arith, omega arith, repeated-turn (a .parts .now) (l .i) (omega arith) (decode (a .state .now) .symbols) (l .inv .2) (c .before .is-repeated .ensures) (c .if1 .left))
+loop-again c =
+    let l = c .before .before .before .loop in
+    let a = c .before .before .before .before .before .before .before .args in
+    (omega arith, omega arith, repeated-turn (a .parts .now) (l .i) (omega arith) (decode (a .state .now) .symbols) (l .inv .2) (c .before .is-repeated .ensures) (c .if1 .left))
 
 returns-2 : tie.Need-returns-2 Inv-loop μ-loop
-returns-2 c = let l = c .before .loop in let a = c .before .before .before .before .before .args in sym (repeated-done (a .parts .now) (l .i) (omega arith) (decode (a .state .now) .symbols)) ∙ l .inv .2
+returns-2 c =
+    let l = c .before .loop in
+    let a = c .before .before .before .before .before .args in
+    sym (repeated-done (a .parts .now) (l .i) (omega arith) (decode (a .state .now) .symbols)) ∙ l .inv .2
 
 pub duplicates-spec : {M : Type 1} → statement M
 duplicates-spec =

@@ -28,16 +28,24 @@ sub-loop : tie.Need-sub-loop Inv-loop μ-loop
 sub-loop c = omega arith
 
 enter-part-requires : tie.Need-enter-part-requires Inv-loop μ-loop
-enter-part-requires c κs = let l = c .before .before .before .loop in (c .before .before .before .before .before .before .before .pre .0, (omega arith, (l .inv .4, l .inv .2)))
+enter-part-requires c κs =
+    let l = c .before .before .before .loop in
+    (c .before .before .before .before .before .before .before .pre .0, (omega arith, (l .inv .4, l .inv .2)))
 
 same-length : tie.Need-same-length Inv-loop μ-loop
 same-length c = omega (arith, c .before .before .before .before .before .enter-part .ensures .1 .long, c .before .before .before .before .before .before .before .before .before .before .before .before .before .pre .1 .1 .1 .long)
 
 same-length-2 : tie.Need-same-length-2 Inv-loop μ-loop
-same-length-2 c = let l = c .before .before .before .before .before .before .before .before .before .loop in let e = c .before .before .before .before .before .enter-part .ensures in omega (arith, e .0 .good .long, l .inv .2 .0 .long, l .inv .3)
+same-length-2 c =
+    let l = c .before .before .before .before .before .before .before .before .before .loop in
+    let e = c .before .before .before .before .before .enter-part .ensures in
+    omega (arith, e .0 .good .long, l .inv .2 .0 .long, l .inv .3)
 
 returns : tie.Need-returns Inv-loop μ-loop
-returns c = let l = c .before .before .before .before .before .before .before .before .before .loop in let e = c .before .before .before .before .before .enter-part .ensures in (enter-stop (l .inv .5) (e .0) (c .if1 .taken), e .1)
+returns c =
+    let l = c .before .before .before .before .before .before .before .before .before .loop in
+    let e = c .before .before .before .before .before .enter-part .ensures in
+    (enter-stop (l .inv .5) (e .0) (c .if1 .taken), e .1)
 
 add-i : tie.Need-add-i Inv-loop μ-loop
 add-i c = omega arith
@@ -46,7 +54,11 @@ loop-less : tie.Need-loop-less Inv-loop μ-loop
 loop-less c = omega arith
 
 loop-again : tie.Need-loop-again Inv-loop μ-loop
-loop-again c = let l = c .before .before .before .before .before .before .before .before .before .loop in let e = c .before .before .before .before .before .enter-part .ensures in let a = c .before .before .before .before .before .before .before .before .before .before .before .before .before .args in (omega arith, refl, (e .0 .good, e .1), omega (arith, e .0 .good .long, l .inv .2 .0 .long, l .inv .3), rest-in-range (a .parts .now) (l .i) (omega arith) (a .base) (l .inv .4), enter-next (l .inv .5) (e .0) (c .if1 .left))
+loop-again c =
+    let l = c .before .before .before .before .before .before .before .before .before .loop in
+    let e = c .before .before .before .before .before .enter-part .ensures in
+    let a = c .before .before .before .before .before .before .before .before .before .before .before .before .before .args in
+    (omega arith, refl, (e .0 .good, e .1), omega (arith, e .0 .good .long, l .inv .2 .0 .long, l .inv .3), rest-in-range (a .parts .now) (l .i) (omega arith) (a .base) (l .inv .4), enter-next (l .inv .5) (e .0) (c .if1 .left))
 
 same-length-3 : tie.Need-same-length-3 Inv-loop μ-loop
 same-length-3 c = omega (arith, c .before .loop .inv .2 .1 .long, c .before .before .before .before .before .pre .1 .1 .1 .long)
@@ -55,7 +67,9 @@ same-length-4 : tie.Need-same-length-4 Inv-loop μ-loop
 same-length-4 c = c .before .loop .inv .3
 
 returns-2 : tie.Need-returns-2 Inv-loop μ-loop
-returns-2 c = let l = c .before .loop in (enter-done (c .before .before .before .before .before .args .parts .now) (l .i) (omega arith) (l .state) (l .inv .2 .0) (l .inv .5), l .inv .2 .1)
+returns-2 c =
+    let l = c .before .loop in
+    (enter-done (c .before .before .before .before .before .args .parts .now) (l .i) (omega arith) (l .state) (l .inv .2 .0) (l .inv .5), l .inv .2 .1)
 
 pub enter-spec : {M : Type 1} → statement M
 enter-spec =

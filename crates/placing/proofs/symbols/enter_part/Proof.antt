@@ -24,10 +24,15 @@ is-entry-requires : tie.Need-is-entry-requires
 is-entry-requires c κs = search needs
 
 returns : tie.Need-returns
-returns c = let a = c .before .before .before .before .before .before .before .args in let s = a .state .now in let p = c .before .before .before .before .before .before .before .pre in (enter-skip (a .parts .now) (a .at) (p .1 .0) (a .base) (c .before .is-entry .ensures) s (p .1 .1 .1 .0) (c .if1 .taken), p .1 .1 .1 .1)
+returns c =
+    let a = c .before .before .before .before .before .before .before .args in
+    let p = c .before .before .before .before .before .before .before .pre in
+    (enter-skip (a .parts .now) (a .at) (p .1 .0) (a .base) (c .before .is-entry .ensures) (a .state .now) (p .1 .1 .1 .0) (c .if1 .taken), p .1 .1 .1 .1)
 
 look-up-requires : tie.Need-look-up-requires
-look-up-requires c κs = (c .before .before .before .before .before .before .before .before .before .pre .1 .1 .1 .0, c .before .before .before .before .before .before .before .before .before .pre .1 .1 .1 .1 .long)
+look-up-requires c κs =
+    let p = c .before .before .before .before .before .before .before .before .before .pre in
+    (p .1 .1 .1 .0, p .1 .1 .1 .1 .long)
 
 is-defined-at-requires : tie.Need-is-defined-at-requires
 is-defined-at-requires c κs = c .before .before .before .before .before .before .before .before .before .before .before .pre .1 .1 .1 .0
@@ -39,16 +44,28 @@ same-length-2 : tie.Need-same-length-2
 same-length-2 c = search needs
 
 returns-2 : tie.Need-returns-2
-returns-2 c = let a = c .before .before .before .before .before .before .before .before .before .before .before .before .before .args in let s = a .state .now in let p = c .before .before .before .before .before .before .before .before .before .before .before .before .before .pre in (enter-second (a .parts .now) (a .at) (p .1 .0) (a .base) (c .before .before .before .before .before .before .before .is-entry .ensures) s (p .1 .1 .1 .0) (c .before .before .before .before .before .before .if1 .left) (c .before .is-defined-at .ensures _ (told-position (p .1 .1 .1 .0) (p .1 .1 .1 .1) _ (c .before .before .before .look-up .ensures))) (c .if2 .taken), p .1 .1 .1 .1)
+returns-2 c =
+    let l = c .before .before .before in
+    let a = l .before .before .before .before .before .before .before .before .before .before .args in
+    let p = l .before .before .before .before .before .before .before .before .before .before .pre in
+    let place = told-position (p .1 .1 .1 .0) (p .1 .1 .1 .1) _ (l .look-up .ensures) in (
+      enter-second (a .parts .now) (a .at) (p .1 .0) (a .base) (l .before .before .before .before .is-entry .ensures) (a .state .now) (p .1 .1 .1 .0) (l .before .before .before .if1 .left) (c .before .is-defined-at .ensures _ place) (c .if2 .taken),
+      p .1 .1 .1 .1,
+    )
 
 entry-value-requires : tie.Need-entry-value-requires
 entry-value-requires c κs = c .before .before .before .before .before .before .before .before .before .before .before .before .before .before .before .pre .0
 
 cast-define : tie.Need-cast-define
-cast-define c = let a = c .before .before .before .before .before .before .before .before .before .before .before .before .before .before .before .before .args in let s = a .state .now in let p = c .before .before .before .before .before .before .before .before .before .before .before .before .before .before .before .before .pre in omega (arith, value-small (a .parts .now) (a .at) (p .1 .0) (a .base) (p .1 .1 .0) (c .entry-value .ensures))
+cast-define c =
+    let a = c .before .before .before .before .before .before .before .before .before .before .before .before .before .before .before .before .args in
+    let p = c .before .before .before .before .before .before .before .before .before .before .before .before .before .before .before .before .pre in
+    omega (arith, value-small (a .parts .now) (a .at) (p .1 .0) (a .base) (p .1 .1 .0) (c .entry-value .ensures))
 
 define-requires : tie.Need-define-requires
-define-requires c κs = (c .before .before .before .before .before .before .before .before .before .before .before .before .before .before .before .before .pre .1 .1 .1 .0, (c .before .before .before .before .before .before .before .before .before .before .before .before .before .before .before .before .pre .1 .1 .1 .1, c .before .before .before .before .before .before .look-up .ensures))
+define-requires c κs =
+    let p = c .before .before .before .before .before .before .before .before .before .before .before .before .before .before .before .before .pre in
+    (p .1 .1 .1 .0, (p .1 .1 .1 .1, c .before .before .before .before .before .before .look-up .ensures))
 
 same-length-3 : tie.Need-same-length-3
 same-length-3 c = search needs
@@ -57,10 +74,20 @@ same-length-4 : tie.Need-same-length-4
 same-length-4 c = search needs
 
 returns-3 : tie.Need-returns-3
-returns-3 c = let a = c .before .before .before .before .before .before .before .before .before .before .before .before .before .before .before .before .before .before .before .before .before .before .args in let s = a .state .now in let p = c .before .before .before .before .before .before .before .before .before .before .before .before .before .before .before .before .before .before .before .before .before .before .pre in (enter-on (a .parts .now) (a .at) (p .1 .0) (a .base) (c .before .before .before .before .before .before .before .before .before .before .before .before .before .before .before .before .is-entry .ensures) s (p .1 .1 .1 .0) (c .before .before .before .before .before .before .before .before .before .before .before .before .before .before .before .if1 .left) (c .before .before .before .before .before .before .before .before .before .before .is-defined-at .ensures _ (told-position (p .1 .1 .1 .0) (p .1 .1 .1 .1) _ (c .before .before .before .before .before .before .before .before .before .before .before .before .look-up .ensures))) (c .before .before .before .before .before .before .before .before .before .if2 .left) (c .before .before .before .before .before .before .entry-value .ensures) (c .before .before .before .before .before .define .last .0) (c .before .before .before .before .before .define .ensures .0) (c .if3 .taken), c .before .before .before .before .before .define .ensures .1)
+returns-3 c =
+    let d = c .before .before .before .before .before in
+    let l = d .before .before .before .before .before .before .before in
+    let a = l .before .before .before .before .before .before .before .before .before .before .args in
+    let p = l .before .before .before .before .before .before .before .before .before .before .pre in
+    let place = told-position (p .1 .1 .1 .0) (p .1 .1 .1 .1) _ (l .look-up .ensures) in (
+      enter-on (a .parts .now) (a .at) (p .1 .0) (a .base) (l .before .before .before .before .is-entry .ensures) (a .state .now) (p .1 .1 .1 .0) (l .before .before .before .if1 .left) (d .before .before .before .before .before .is-defined-at .ensures _ place) (d .before .before .before .before .if2 .left) (d .before .entry-value .ensures) (d .define .last .0) (d .define .ensures .0) (c .if3 .taken),
+      d .define .ensures .1,
+    )
 
 full-fault-requires : tie.Need-full-fault-requires
-full-fault-requires c κs = (omega (arith, c .before .before .before .before .before .before .before .before .before .before .before .before .before .before .before .before .before .before .before .before .before .before .before .before .pre .1 .0), (c .before .before .before .before .before .before .before .define .ensures .0 .holds .good, c .before .before .before .before .before .before .before .define .ensures .1))
+full-fault-requires c κs =
+    let d = c .before .before .before .before .before .before .before in
+    (omega (arith, d .before .before .before .before .before .before .before .before .before .before .before .before .before .before .before .before .before .pre .1 .0), (d .define .ensures .0 .holds .good, d .define .ensures .1))
 
 same-length-5 : tie.Need-same-length-5
 same-length-5 c = search needs
@@ -69,7 +96,15 @@ same-length-6 : tie.Need-same-length-6
 same-length-6 c = search needs
 
 returns-4 : tie.Need-returns-4
-returns-4 c = let a = c .before .before .before .before .before .before .before .before .before .before .before .before .before .before .before .before .before .before .before .before .before .before .before .before .before .args in let s = a .state .now in let p = c .before .before .before .before .before .before .before .before .before .before .before .before .before .before .before .before .before .before .before .before .before .before .before .before .before .pre in (enter-full (a .parts .now) (a .at) (p .1 .0) (a .base) (c .before .before .before .before .before .before .before .before .before .before .before .before .before .before .before .before .before .before .before .is-entry .ensures) s (p .1 .1 .1 .0) (c .before .before .before .before .before .before .before .before .before .before .before .before .before .before .before .before .before .before .if1 .left) (c .before .before .before .before .before .before .before .before .before .before .before .before .before .is-defined-at .ensures _ (told-position (p .1 .1 .1 .0) (p .1 .1 .1 .1) _ (c .before .before .before .before .before .before .before .before .before .before .before .before .before .before .before .look-up .ensures))) (c .before .before .before .before .before .before .before .before .before .before .before .before .if2 .left) (c .before .before .before .before .before .before .before .before .before .entry-value .ensures) (c .before .before .before .before .before .before .before .before .define .last .0) (c .before .before .before .before .before .before .before .before .define .ensures .0) (c .before .before .before .if3 .left) (c .full-fault .ensures), c .before .before .before .before .before .before .before .before .define .ensures .1)
+returns-4 c =
+    let d = c .before .before .before .before .before .before .before .before in
+    let l = d .before .before .before .before .before .before .before in
+    let a = l .before .before .before .before .before .before .before .before .before .before .args in
+    let p = l .before .before .before .before .before .before .before .before .before .before .pre in
+    let place = told-position (p .1 .1 .1 .0) (p .1 .1 .1 .1) _ (l .look-up .ensures) in (
+      enter-full (a .parts .now) (a .at) (p .1 .0) (a .base) (l .before .before .before .before .is-entry .ensures) (a .state .now) (p .1 .1 .1 .0) (l .before .before .before .if1 .left) (d .before .before .before .before .before .is-defined-at .ensures _ place) (d .before .before .before .before .if2 .left) (d .before .entry-value .ensures) (d .define .last .0) (d .define .ensures .0) (c .before .before .before .if3 .left) (c .full-fault .ensures),
+      d .define .ensures .1,
+    )
 
 pub enter-part-spec : {M : Type 1} → statement M
 enter-part-spec =

@@ -53,34 +53,55 @@ same-length : tie.Need-same-length Inv-loop μ-loop
 same-length c = omega (arith, c .before .before .before .before .before .mention .ensures .1 .long, c .before .before .before .before .before .before .before .before .before .before .before .before .before .before .before .before .before .pre .1 .1 .long)
 
 same-length-2 : tie.Need-same-length-2 Inv-loop μ-loop
-same-length-2 c = let l = c .before .before .before .before .before .before .before .before .before .before .before .before .before .loop in omega (arith, c .before .before .before .before .before .mention .ensures .0 .joined .holds .good .long, l .inv .2 .0 .long, l .inv .3)
+same-length-2 c =
+    let l = c .before .before .before .before .before .before .before .before .before .before .before .before .before .loop in
+    omega (arith, c .before .before .before .before .before .mention .ensures .0 .joined .holds .good .long, l .inv .2 .0 .long, l .inv .3)
 
 returns : tie.Need-returns Inv-loop μ-loop
-returns c = let l = c .before .before .before .before .before .before .before .before .before .before .before .before .before .loop in let a = c .before .before .before .before .before .before .before .before .before .before .before .before .before .before .before .before .before .args in (mention-full (externalsIn (partsFrom (a .parts .now) 0)) (decode (a .state .now)) (l .at) (l .count) (a .parts .now) (l .i) (omega arith) (decode (l .state)) (l .inv .4) (sym (c .before .before .before .before .before .before .before .before .before .is-external .ensures) ∙ c .before .before .before .before .before .before .before .before .if1 .taken) (c .before .before .before .before .before .mention .ensures .0) (c .if2 .taken), c .before .before .before .before .before .mention .ensures .1)
+returns c =
+    let l = c .before .before .before .before .before .before .before .before .before .before .before .before .before .loop in
+    let a = c .before .before .before .before .before .before .before .before .before .before .before .before .before .before .before .before .before .args in
+    (mention-full (externalsIn (partsFrom (a .parts .now) 0)) (decode (a .state .now)) (l .at) (l .count) (a .parts .now) (l .i) (omega arith) (decode (l .state)) (l .inv .4) (sym (c .before .before .before .before .before .before .before .before .before .is-external .ensures) ∙ c .before .before .before .before .before .before .before .before .if1 .taken) (c .before .before .before .before .before .mention .ensures .0) (c .if2 .taken), c .before .before .before .before .before .mention .ensures .1)
 
 cast-at : tie.Need-cast-at Inv-loop μ-loop
 cast-at c = omega (arith, c .before .before .before .before .before .mention .ensures .0 .most)
 
 mul-at : tie.Need-mul-at Inv-loop μ-loop
-mul-at c = let l = c .before .before .before .before .before .before .before .before .before .before .before .before .before .loop in let a = c .before .before .before .before .before .before .before .before .before .before .before .before .before .before .before .before .before .args in omega (arith, mention-index (externalsIn (partsFrom (a .parts .now) 0)) (decode (a .state .now)) (l .at) (l .count) (a .parts .now) (l .i) (omega arith) (decode (l .state)) (l .inv .4) (sym (c .before .before .before .before .before .before .before .before .before .is-external .ensures) ∙ c .before .before .before .before .before .before .before .before .if1 .taken) (c .before .before .before .before .before .before .before .before .before .before .before .before .before .before .before .before .before .pre .0))
+mul-at c =
+    let l = c .before .before .before .before .before .before .before .before .before .before .before .before .before .loop in
+    let a = c .before .before .before .before .before .before .before .before .before .before .before .before .before .before .before .before .before .args in
+    omega (arith, mention-index (externalsIn (partsFrom (a .parts .now) 0)) (decode (a .state .now)) (l .at) (l .count) (a .parts .now) (l .i) (omega arith) (decode (l .state)) (l .inv .4) (sym (c .before .before .before .before .before .before .before .before .before .is-external .ensures) ∙ c .before .before .before .before .before .before .before .before .if1 .taken) (c .before .before .before .before .before .before .before .before .before .before .before .before .before .before .before .before .before .pre .0))
 
 array-write-at : tie.Need-array-write-at Inv-loop μ-loop
-array-write-at c = let l = c .before .before .before .before .before .before .before .before .before .before .before .before .before .loop in let a = c .before .before .before .before .before .before .before .before .before .before .before .before .before .before .before .before .before .args in mention-index (externalsIn (partsFrom (a .parts .now) 0)) (decode (a .state .now)) (l .at) (l .count) (a .parts .now) (l .i) (omega arith) (decode (l .state)) (l .inv .4) (sym (c .before .before .before .before .before .before .before .before .before .is-external .ensures) ∙ c .before .before .before .before .before .before .before .before .if1 .taken) (c .before .before .before .before .before .before .before .before .before .before .before .before .before .before .before .before .before .pre .0)
+array-write-at c =
+    let l = c .before .before .before .before .before .before .before .before .before .before .before .before .before .loop in
+    let a = c .before .before .before .before .before .before .before .before .before .before .before .before .before .before .before .before .before .args in
+    mention-index (externalsIn (partsFrom (a .parts .now) 0)) (decode (a .state .now)) (l .at) (l .count) (a .parts .now) (l .i) (omega arith) (decode (l .state)) (l .inv .4) (sym (c .before .before .before .before .before .before .before .before .before .is-external .ensures) ∙ c .before .before .before .before .before .before .before .before .if1 .taken) (c .before .before .before .before .before .before .before .before .before .before .before .before .before .before .before .before .before .pre .0)
 
 add-count : tie.Need-add-count Inv-loop μ-loop
-add-count c = let l = c .before .before .before .before .before .before .before .before .before .before .before .before .before .loop in let a = c .before .before .before .before .before .before .before .before .before .before .before .before .before .before .before .before .before .args in omega (arith, mention-index (externalsIn (partsFrom (a .parts .now) 0)) (decode (a .state .now)) (l .at) (l .count) (a .parts .now) (l .i) (omega arith) (decode (l .state)) (l .inv .4) (sym (c .before .before .before .before .before .before .before .before .before .is-external .ensures) ∙ c .before .before .before .before .before .before .before .before .if1 .taken) (c .before .before .before .before .before .before .before .before .before .before .before .before .before .before .before .before .before .pre .0))
+add-count c =
+    let l = c .before .before .before .before .before .before .before .before .before .before .before .before .before .loop in
+    let a = c .before .before .before .before .before .before .before .before .before .before .before .before .before .before .before .before .before .args in
+    omega (arith, mention-index (externalsIn (partsFrom (a .parts .now) 0)) (decode (a .state .now)) (l .at) (l .count) (a .parts .now) (l .i) (omega arith) (decode (l .state)) (l .inv .4) (sym (c .before .before .before .before .before .before .before .before .before .is-external .ensures) ∙ c .before .before .before .before .before .before .before .before .if1 .taken) (c .before .before .before .before .before .before .before .before .before .before .before .before .before .before .before .before .before .pre .0))
 
 loop-less : tie.Need-loop-less Inv-loop μ-loop
 loop-less c = omega arith
 
 loop-again : tie.Need-loop-again Inv-loop μ-loop
-loop-again c = let l = c .before .before .before .before .before .before .before .before .before .before .before .before .before .loop in let a = c .before .before .before .before .before .before .before .before .before .before .before .before .before .before .before .before .before .args in let m = c .before .before .before .before .before .mention .ensures .0 in (omega arith, refl, (m .joined .holds .good, c .before .before .before .before .before .mention .ensures .1), omega (arith, m .joined .holds .good .long, l .inv .2 .0 .long, l .inv .3), mention-put (externalsIn (partsFrom (a .parts .now) 0)) (decode (a .state .now)) (l .at) (l .count) (a .parts .now) (l .i) (omega arith) (decode (l .state)) (l .inv .4) (sym (c .before .before .before .before .before .before .before .before .before .is-external .ensures) ∙ c .before .before .before .before .before .before .before .before .if1 .taken) m (c .before .before .before .before .before .before .before .before .before .before .before .before .before .before .before .before .before .pre .0) (c .if2 .left))
+loop-again c =
+    let l = c .before .before .before .before .before .before .before .before .before .before .before .before .before .loop in
+    let a = c .before .before .before .before .before .before .before .before .before .before .before .before .before .before .before .before .before .args in
+    let m = c .before .before .before .before .before .mention .ensures .0 in
+    (omega arith, refl, (m .joined .holds .good, c .before .before .before .before .before .mention .ensures .1), omega (arith, m .joined .holds .good .long, l .inv .2 .0 .long, l .inv .3), mention-put (externalsIn (partsFrom (a .parts .now) 0)) (decode (a .state .now)) (l .at) (l .count) (a .parts .now) (l .i) (omega arith) (decode (l .state)) (l .inv .4) (sym (c .before .before .before .before .before .before .before .before .before .is-external .ensures) ∙ c .before .before .before .before .before .before .before .before .if1 .taken) m (c .before .before .before .before .before .before .before .before .before .before .before .before .before .before .before .before .before .pre .0) (c .if2 .left))
 
 loop-less-2 : tie.Need-loop-less-2 Inv-loop μ-loop
 loop-less-2 c = omega arith
 
 loop-again-2 : tie.Need-loop-again-2 Inv-loop μ-loop
-loop-again-2 c = let l = c .before .before .before .before .before .loop in let a = c .before .before .before .before .before .before .before .before .before .args in (omega arith, refl, l .inv .2, l .inv .3, mention-skip (externalsIn (partsFrom (a .parts .now) 0)) (decode (a .state .now)) (l .at) (l .count) (a .parts .now) (l .i) (omega arith) (decode (l .state)) (l .inv .4) (sym (c .before .is-external .ensures) ∙ c .if1 .left))
+loop-again-2 c =
+    let l = c .before .before .before .before .before .loop in
+    let a = c .before .before .before .before .before .before .before .before .before .args in
+    (omega arith, refl, l .inv .2, l .inv .3, mention-skip (externalsIn (partsFrom (a .parts .now) 0)) (decode (a .state .now)) (l .at) (l .count) (a .parts .now) (l .i) (omega arith) (decode (l .state)) (l .inv .4) (sym (c .before .is-external .ensures) ∙ c .if1 .left))
 
 same-length-3 : tie.Need-same-length-3 Inv-loop μ-loop
 same-length-3 c = omega (arith, c .before .loop .inv .2 .1 .long, c .before .before .before .before .before .pre .1 .1 .long)
@@ -89,7 +110,10 @@ same-length-4 : tie.Need-same-length-4 Inv-loop μ-loop
 same-length-4 c = c .before .loop .inv .3
 
 returns-2 : tie.Need-returns-2 Inv-loop μ-loop
-returns-2 c = let l = c .before .loop in let a = c .before .before .before .before .before .args in (mention-done (externalsIn (partsFrom (a .parts .now) 0)) (decode (a .state .now)) (l .at) (l .count) (a .parts .now) (l .i) (omega arith) (l .state) (l .inv .2 .0) (l .inv .4), l .inv .2 .1)
+returns-2 c =
+    let l = c .before .loop in
+    let a = c .before .before .before .before .before .args in
+    (mention-done (externalsIn (partsFrom (a .parts .now) 0)) (decode (a .state .now)) (l .at) (l .count) (a .parts .now) (l .i) (omega arith) (l .state) (l .inv .2 .0) (l .inv .4), l .inv .2 .1)
 
 pub mention-all-spec : {M : Type 1} → statement M
 mention-all-spec =

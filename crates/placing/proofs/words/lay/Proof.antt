@@ -59,7 +59,10 @@ same-length : tie.Need-same-length Inv-loop μ-loop
 same-length c = c .before .before .before .before .before .before .before .before .before .loop .inv .3
 
 returns : tie.Need-returns Inv-loop μ-loop
-returns c = let l = c .before .before .before .before .before .before .before .before .before .loop in let a = c .before .before .before .before .before .before .before .before .before .before .before .before .args in record { clash-is = lay-clash (a .base) (codeIn (partsFrom (a .parts .now) 0)) (decode (a .state .now)) (a .parts .now) (l .i) (omega arith) (decode (l .state)) (sym (c .before .before .before .before .before .is-word .ensures) ∙ c .before .before .before .before .if1 .taken) (l .inv .4) (c .before .before .before .address .result) (c .before .before .before .address .ensures) (c .before .is-placed .result) (c .before .is-placed .ensures) (c .if2 .taken); good = l .inv .2; table-is = lay-table (l .inv .4); done = λ e. never refl e }
+returns c =
+    let l = c .before .before .before .before .before .before .before .before .before .loop in
+    let a = c .before .before .before .before .before .before .before .before .before .before .before .before .args in
+    record { clash-is = lay-clash (a .base) (codeIn (partsFrom (a .parts .now) 0)) (decode (a .state .now)) (a .parts .now) (l .i) (omega arith) (decode (l .state)) (sym (c .before .before .before .before .before .is-word .ensures) ∙ c .before .before .before .before .if1 .taken) (l .inv .4) (c .before .before .before .address .result) (c .before .before .before .address .ensures) (c .before .is-placed .result) (c .before .is-placed .ensures) (c .if2 .taken); good = l .inv .2; table-is = lay-table (l .inv .4); done = λ e. never refl e }
 
 put-plain-requires : tie.Need-put-plain-requires Inv-loop μ-loop
 put-plain-requires c κs = c .before .before .before .before .before .before .before .before .before .before .loop .inv .2
@@ -68,19 +71,28 @@ loop-less : tie.Need-loop-less Inv-loop μ-loop
 loop-less c = omega arith
 
 loop-again : tie.Need-loop-again Inv-loop μ-loop
-loop-again c = let l = c .before .before .before .before .before .before .before .before .before .before .before .before .before .loop in let a = c .before .before .before .before .before .before .before .before .before .before .before .before .before .before .before .before .args in (omega arith, refl, c .before .before .put-plain .ensures .good, omega (arith, c .before .before .put-plain .ensures .good .long, l .inv .2 .long, l .inv .3), lay-put (a .base) (codeIn (partsFrom (a .parts .now) 0)) (decode (a .state .now)) (a .parts .now) (l .i) (omega arith) (decode (l .state)) (sym (c .before .before .before .before .before .before .before .before .before .is-word .ensures) ∙ c .before .before .before .before .before .before .before .before .if1 .taken) (l .inv .4) (c .before .before .before .before .before .before .before .address .result) (c .before .before .before .before .before .before .before .address .ensures) (c .before .before .before .before .before .is-placed .result) (c .before .before .before .before .before .is-placed .ensures) (c .before .before .before .before .if2 .left) (decode (c .before .before .put-plain .last .0)) (c .before .before .put-plain .ensures .is))
+loop-again c =
+    let l = c .before .before .before .before .before .before .before .before .before .before .before .before .before .loop in
+    let a = c .before .before .before .before .before .before .before .before .before .before .before .before .before .before .before .before .args in
+    (omega arith, refl, c .before .before .put-plain .ensures .good, omega (arith, c .before .before .put-plain .ensures .good .long, l .inv .2 .long, l .inv .3), lay-put (a .base) (codeIn (partsFrom (a .parts .now) 0)) (decode (a .state .now)) (a .parts .now) (l .i) (omega arith) (decode (l .state)) (sym (c .before .before .before .before .before .before .before .before .before .is-word .ensures) ∙ c .before .before .before .before .before .before .before .before .if1 .taken) (l .inv .4) (c .before .before .before .before .before .before .before .address .result) (c .before .before .before .before .before .before .before .address .ensures) (c .before .before .before .before .before .is-placed .result) (c .before .before .before .before .before .is-placed .ensures) (c .before .before .before .before .if2 .left) (decode (c .before .before .put-plain .last .0)) (c .before .before .put-plain .ensures .is))
 
 loop-less-2 : tie.Need-loop-less-2 Inv-loop μ-loop
 loop-less-2 c = omega arith
 
 loop-again-2 : tie.Need-loop-again-2 Inv-loop μ-loop
-loop-again-2 c = let l = c .before .before .before .before .before .loop in let a = c .before .before .before .before .before .before .before .before .args in (omega arith, refl, l .inv .2, l .inv .3, lay-skip (a .base) (codeIn (partsFrom (a .parts .now) 0)) (decode (a .state .now)) (a .parts .now) (l .i) (omega arith) (decode (l .state)) (sym (c .before .is-word .ensures) ∙ c .if1 .left) (l .inv .4))
+loop-again-2 c =
+    let l = c .before .before .before .before .before .loop in
+    let a = c .before .before .before .before .before .before .before .before .args in
+    (omega arith, refl, l .inv .2, l .inv .3, lay-skip (a .base) (codeIn (partsFrom (a .parts .now) 0)) (decode (a .state .now)) (a .parts .now) (l .i) (omega arith) (decode (l .state)) (sym (c .before .is-word .ensures) ∙ c .if1 .left) (l .inv .4))
 
 same-length-2 : tie.Need-same-length-2 Inv-loop μ-loop
 same-length-2 c = c .before .loop .inv .3
 
 returns-2 : tie.Need-returns-2 Inv-loop μ-loop
-returns-2 c = let l = c .before .loop in let a = c .before .before .before .before .args in lay-done (a .base) (codeIn (partsFrom (a .parts .now) 0)) (decode (a .state .now)) (a .parts .now) (l .i) (omega arith) (l .state) (l .inv .2) (l .inv .4)
+returns-2 c =
+    let l = c .before .loop in
+    let a = c .before .before .before .before .args in
+    lay-done (a .base) (codeIn (partsFrom (a .parts .now) 0)) (decode (a .state .now)) (a .parts .now) (l .i) (omega arith) (l .state) (l .inv .2) (l .inv .4)
 
 pub lay-spec : {M : Type 1} → statement M
 lay-spec =

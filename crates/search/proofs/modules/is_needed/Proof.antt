@@ -39,7 +39,10 @@ is-needed-entry-requires : tie.Need-is-needed-entry-requires Inv-loop μ-loop
 is-needed-entry-requires c κs = c .before .before .before .before .before .before .before .pre
 
 returns : tie.Need-returns Inv-loop μ-loop
-returns c = let l = c .before .before .before .before .before .loop in let a = c .before .before .before .before .before .before .before .before .before .args in needed-turn (decode (a .state .now)) (a .parts .now) (l .i) (omega arith) (l .inv .2) (c .before .is-needed-entry .ensures) (c .if1 .taken) ∙ sym (needed-is (decode (a .state .now)) 0 (partsFrom (a .parts .now) 0))
+returns c =
+    let l = c .before .before .before .before .before .loop in
+    let a = c .before .before .before .before .before .before .before .before .before .args in
+    needed-turn (decode (a .state .now)) (a .parts .now) (l .i) (omega arith) (l .inv .2) (c .before .is-needed-entry .ensures) (c .if1 .taken) ∙ sym (needed-is (decode (a .state .now)) 0 (partsFrom (a .parts .now) 0))
 
 add-i : tie.Need-add-i Inv-loop μ-loop
 add-i c = omega arith
@@ -48,10 +51,16 @@ loop-less : tie.Need-loop-less Inv-loop μ-loop
 loop-less c = omega arith
 
 loop-again : tie.Need-loop-again Inv-loop μ-loop
-loop-again c = let l = c .before .before .before .before .before .loop in let a = c .before .before .before .before .before .before .before .before .before .args in (omega arith, omega arith, needed-turn (decode (a .state .now)) (a .parts .now) (l .i) (omega arith) (l .inv .2) (c .before .is-needed-entry .ensures) (c .if1 .left))
+loop-again c =
+    let l = c .before .before .before .before .before .loop in
+    let a = c .before .before .before .before .before .before .before .before .before .args in
+    (omega arith, omega arith, needed-turn (decode (a .state .now)) (a .parts .now) (l .i) (omega arith) (l .inv .2) (c .before .is-needed-entry .ensures) (c .if1 .left))
 
 returns-2 : tie.Need-returns-2 Inv-loop μ-loop
-returns-2 c = let l = c .before .loop in let a = c .before .before .before .before .before .args in sym (needed-done (decode (a .state .now)) (a .parts .now) (l .i) (omega arith)) ∙ l .inv .2 ∙ sym (needed-is (decode (a .state .now)) 0 (partsFrom (a .parts .now) 0))
+returns-2 c =
+    let l = c .before .loop in
+    let a = c .before .before .before .before .before .args in
+    sym (needed-done (decode (a .state .now)) (a .parts .now) (l .i) (omega arith)) ∙ l .inv .2 ∙ sym (needed-is (decode (a .state .now)) 0 (partsFrom (a .parts .now) 0))
 
 pub is-needed-spec : {M : Type 1} → statement M
 is-needed-spec =

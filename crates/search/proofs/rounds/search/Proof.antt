@@ -42,7 +42,9 @@ slice-aggregate-first-candidates : tie.Need-slice-aggregate-first-candidates Inv
 slice-aggregate-first-candidates c = search needs
 
 first-candidates-requires : tie.Need-first-candidates-requires Inv-loop μ-loop
-first-candidates-requires c κs = let p = c .before .before .before .before .before .before .before .pre in (p .1 .0, (refl, p .1 .1 .0))
+first-candidates-requires c κs =
+    let p = c .before .before .before .before .before .before .before .pre in
+    (p .1 .0, (refl, p .1 .1 .0))
 
 loop-holds : tie.Need-loop-holds Inv-loop μ-loop
 loop-holds c =

@@ -22,7 +22,9 @@ is-needed-requires c κs = search needs
 
 returns-3 : tie.Need-returns-3
 unfolding shouldTake
-returns-3 c = let a = c .before .before .before .before .before .before .before .before .before .args in simp (c .before .before .before .before .if1 .left, eq-eqb _ _ (c .before .before .if2 .left)) (needed-row (a .parts .now) (a .rows .now) (a .row) (c .before .module-cells .ensures) (decode (a .state .now)) (c .is-needed .ensures))
+returns-3 c =
+    let a = c .before .before .before .before .before .before .before .before .before .args in
+    simp (c .before .before .before .before .if1 .left, eq-eqb _ _ (c .before .before .if2 .left)) (needed-row (a .parts .now) (a .rows .now) (a .row) (c .before .module-cells .ensures) (decode (a .state .now)) (c .is-needed .ensures))
 
 pub should-take-spec : {M : Type 1} → statement M
 should-take-spec = tie.close (tie.spec returns returns-2 module-cells-requires is-needed-requires returns-3)

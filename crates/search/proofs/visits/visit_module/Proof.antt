@@ -7,10 +7,14 @@ use Rattle.search.proofs.visits.visit_module.Statement.{statement}
 use Rattle.search.proofs.visits.visit_module.Tie as tie
 
 add-row : tie.Need-add-row
-add-row c = let p = c .before .before .before .before .before .before .before .pre in omega (arith, p .0 .0 .low, p .0 .0 .short, p .0 .1)
+add-row c =
+    let p = c .before .before .before .before .before .before .before .pre in
+    omega (arith, p .0 .0 .low, p .0 .0 .short, p .0 .1)
 
 should-take-requires : tie.Need-should-take-requires
-should-take-requires c κs = let p = c .before .before .before .before .before .before .before .before .before .pre in (omega (arith, p .0 .0 .low, p .0 .0 .short, p .0 .1), p .1 .1)
+should-take-requires c κs =
+    let p = c .before .before .before .before .before .before .before .before .before .pre in
+    (omega (arith, p .0 .0 .low, p .0 .0 .short, p .0 .1), p .1 .1)
 
 same-length : tie.Need-same-length
 same-length c = search needs
