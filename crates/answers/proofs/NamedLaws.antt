@@ -1,11 +1,12 @@
 -- A name that is handed back is the answer's, if its text is that of the number's row.
-use Prim.Native.Nat.{ℕ}
-use mathlib.Core.List.{List, []}
+use Prim.Native.Nat.{ℕ, zero, suc}
+use mathlib.Core.List.{List, [], _∷_, map}
 use mathlib.Core.Logic.{_≢_}
-use mathlib.Core.Path.{_≡_, sym, ap, ap₂, _∙_}
+use mathlib.Core.Path.{_≡_, refl, sym, ap, ap₂, _∙_}
 use lib.ListN.{take}
 use borrow.Author.Tests.{ne-eqb}
-use Rattle.rules.specs.Answers.{answers, nameIn, answerName}
+use Rattle.rules.specs.Answers.{Answer, answers, nameIn, answerName}
+use Rattle.rules.proofs.TestLaws.{Every}
 use Rattle.answers.specs.Names.{Named}
 use Rattle.answers.specs.declared.AnswerName.{AnswerName}
 
@@ -14,12 +15,32 @@ pub named-is :
     → take (r .length) (r .bytes) ≡ answerName number
 named-is h q e = ap₂ take (h .length) (h .bytes) ∙ e ∙ ap answerName (sym q)
 
--- a number that no row has
-pub no-name :
-    (n : ℕ)
-    → n ≢ 0 → n ≢ 1 → n ≢ 2 → n ≢ 3 → n ≢ 4 → n ≢ 5 → n ≢ 6 → n ≢ 7 → n ≢ 8 → n ≢ 9 → n ≢ 10 → n ≢ 11 → n ≢ 12 → n ≢ 13 → n ≢ 14 → n ≢ 15 → n ≢ 16
-    → answerName n ≡ []
-unfolding answerName nameIn answers
-no-name n h0 h1 h2 h3 h4 h5 h6 h7 h8 h9 h10 h11 h12 h13 h14 h15 h16 =
-    simp
-    (ne-eqb 0 n (λ e. h0 (sym e)), ne-eqb 1 n (λ e. h1 (sym e)), ne-eqb 2 n (λ e. h2 (sym e)), ne-eqb 3 n (λ e. h3 (sym e)), ne-eqb 4 n (λ e. h4 (sym e)), ne-eqb 5 n (λ e. h5 (sym e)), ne-eqb 6 n (λ e. h6 (sym e)), ne-eqb 7 n (λ e. h7 (sym e)), ne-eqb 8 n (λ e. h8 (sym e)), ne-eqb 9 n (λ e. h9 (sym e)), ne-eqb 10 n (λ e. h10 (sym e)), ne-eqb 11 n (λ e. h11 (sym e)), ne-eqb 12 n (λ e. h12 (sym e)), ne-eqb 13 n (λ e. h13 (sym e)), ne-eqb 14 n (λ e. h14 (sym e)), ne-eqb 15 n (λ e. h15 (sym e)), ne-eqb 16 n (λ e. h16 (sym e)))
+-- ---- a number that no row has
+
+-- none of these numbers, as a match tells it behind its last row
+abbrev pub NoneOf : List ℕ → ℕ → Type 0
+NoneOf [] n = Unit {0}
+NoneOf (k ∷ ks) n = NoneOf ks n × (n ≢ k)
+
+-- the numbers below n, falling
+unfoldable pub below : ℕ → List ℕ
+below zero = []
+below (suc n) = n ∷ below n
+
+turned : List ℕ → List ℕ → List ℕ
+turned [] done = done
+turned (k ∷ ks) done = turned ks (k ∷ done)
+
+none-turned : (ks done : List ℕ) (n : ℕ) → NoneOf ks n → Every (λ k. n ≢ k) done → Every (λ k. n ≢ k) (turned ks done)
+unfolding turned
+none-turned [] done n h d = d
+none-turned (k ∷ ks) done n h d = none-turned ks (k ∷ done) n (h .0) (h .1, d)
+
+no-row : (rows : List Answer) (n : ℕ) → Every (λ k. n ≢ k) (map (λ (a : Answer). a .number) rows) → nameIn rows n ≡ []
+unfolding nameIn
+no-row [] n h = refl
+no-row (a ∷ rows) n h = rw (ne-eqb (a .number) n (λ e. h .0 (sym e))) (no-row rows n (h .1))
+
+pub no-name : (n : ℕ) → NoneOf (below 22) n → answerName n ≡ []
+unfolding answerName answers below turned
+no-name n h = no-row answers n (none-turned (below 22) [] n h tt)

@@ -4,18 +4,23 @@ use rules::answer::BUFFER;
 use rules::answer::DAMAGED;
 use rules::answer::DONE;
 use rules::answer::DUPLICATE;
+use rules::answer::FIELDS;
 use rules::answer::FROZEN;
 use rules::answer::LINE;
 use rules::answer::LIST;
+use rules::answer::MARKER;
 use rules::answer::NAME;
+use rules::answer::NUMBER;
 use rules::answer::OUT;
 use rules::answer::OVERLAP;
 use rules::answer::PLACE;
 use rules::answer::RANGE;
 use rules::answer::RESET;
 use rules::answer::ROOM;
+use rules::answer::SYMBOL;
 use rules::answer::TABLE;
 use rules::answer::TOO_LONG;
+use rules::answer::TYPE;
 ghost use mathlib.Core.Path.{_≡_};
 ghost use lib.ListN.{take};
 ghost use Rattle.rules.specs.Answers.{answerName};
@@ -58,6 +63,11 @@ pub fn answer_name(number: u64) -> AnswerName
         TABLE => named(b"TABLE    ", 5),
         NAME => named(b"NAME     ", 4),
         OUT => named(b"OUT      ", 3),
+        FIELDS => named(b"FIELDS   ", 6),
+        NUMBER => named(b"NUMBER   ", 6),
+        SYMBOL => named(b"SYMBOL   ", 6),
+        MARKER => named(b"MARKER   ", 6),
+        TYPE => named(b"TYPE     ", 4),
         _ => named(b"         ", 0),
     }
 }

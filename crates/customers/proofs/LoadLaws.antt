@@ -15,7 +15,8 @@ use Rattle.rules.specs.declared.answer.LoadAnswer.{LoadAnswer}
 use Rattle.rules.specs.Demand.{LeastSufficient, LeastAtEach}
 use Rattle.rules.specs.declared.answer.SymbolAnswer.{SymbolAnswer}
 use Rattle.rules.specs.declared.reading.Reading.the-variants.{Stopped}
-use Rattle.rules.proofs.OrderLaws.{load-reads}
+use Rattle.rules.proofs.OrderLaws.{load-reads, columns-named}
+use Rattle.rules.proofs.ToldLaws.{leftmost-told}
 use Rattle.rules.proofs.Demand3.{library-least}
 use Rattle.state.specs.Layout.{lent}
 use Rattle.state.specs.Promise.{LoadCalled, DemandMet}
@@ -40,7 +41,7 @@ module _ (cells file after : List ℕ) (d : DemandMet cells file after) (s : Sta
   symbols-left i r e = e ∙ ap (λ m. symbols m i) (d .holds) ∙ ap (λ (t : State). symbolAt (t .symbols) i) (least-from .ends)
 
 -- what a file that cannot be read comes to
-stopped-load : (s : State) (file : List ℕ) (k n c : ℕ) → readingOf file ≡ Stopped k n c → loadFile s file ≡ loaded (refusal k n) 0 (marked broken s)
+stopped-load : (s : State) (file : List ℕ) (k n c : ℕ) → readingOf file ≡ Stopped k n c → loadFile s file ≡ loaded (refusal k n) c 0 (marked broken s)
 unfolding loadFile loadRead
 stopped-load s file k n c e = ap (loadRead s file) e
 
@@ -55,10 +56,15 @@ module _ (before work file : List ℕ) (r : LoadAnswer) (after used : List ℕ) 
         unread = λ z few. kept z .1 few;
         told = λ s k n c h mark room short e.
             answer-is (λ m. load m (workFits work) file) before after r (p .call) (holding s) h
-            (loadOutcome (loaded (refusal k n) 0 (marked broken s)))
+            (loadOutcome (loaded (refusal k n) c 0 (marked broken s)))
             (ap (λ (f : Bool). load (holding s) f file) (eq-eqb (length work) workSize room)
             ∙ load-reads s file mark short
             ∙ ap loadOutcome (stopped-load s file k n c e));
+        leftmost-told = λ s ls more line f h mark room short lines clean least.
+            answer-is (λ m. load m (workFits work) file) before after r (p .call) (holding s) h _
+            (ap (λ (f : Bool). load (holding s) f file) (eq-eqb (length work) workSize room)
+            ∙ leftmost-told ls more line f clean least s file mark short lines);
+        columns = rw (c .answer) (columns-named (lent before) (workFits work) file);
         cleared = work-cleared work used (p .work-left) .0;
         untouched = work-cleared work used (p .work-left) .1;
         least = least;

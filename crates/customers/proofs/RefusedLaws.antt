@@ -17,6 +17,7 @@ use Rattle.rules.specs.declared.answer.LoadAnswer.{LoadAnswer}
 use Rattle.rules.specs.declared.answer.CallAnswer.{CallAnswer}
 use Rattle.rules.specs.declared.answer.EndAnswer.{EndAnswer}
 use Rattle.rules.proofs.TestLaws.{between-low, between-high}
+use Rattle.rules.proofs.AnswerLaws.{right-fault, file-fault-low}
 use Rattle.rules.proofs.LoadLaws.{Ending, done, ahead, forFile, load-ends}
 use Rattle.rules.proofs.OrderLaws.{load-without-work, load-wrong-length, load-damaged, load-lent, load-broken, load-frozen, force-broken, base-broken, end-broken}
 use Rattle.rules.proofs.CallLaws.{end-cases}
@@ -69,10 +70,10 @@ lent-keeps cells damaged true file e = stopped-keeps cells (load damaged true fi
 lent-keeps cells (holding s) fits file e = go (load-ends s fits file)
   where
     go : Ending s (load (holding s) fits file) → Kept cells (load (holding s) fits file)
-    go (done d) z = absurd (z d)
-    go (ahead k _ _ l) z = stopped-keeps cells (load (holding s) fits file) l z
+    go (done d _) z = absurd (z d)
+    go (ahead k _ _ _ l) z = stopped-keeps cells (load (holding s) fits file) l z
     go (forFile k _ l) z =
-        broken-keeps cells s (load (holding s) fits file) (held-encoded cells s e) (between-low 6 14 _ k) l z
+        broken-keeps cells s (load (holding s) fits file) (held-encoded cells s e) (file-fault-low _ (right-fault _ _ k)) l z
 
 module _ (cells work file : List ℕ) (r : LoadAnswer) (after : List ℕ) (c : Called (load (lent cells) (workFits work) file) cells r after) where
   pub refused-keeps : r .number ≢ 0 → SameButMark cells after × (r .number ≤ 5 → after ≡ cells)
@@ -91,8 +92,8 @@ refused-left : (s : State) (fits : Bool) (file : List ℕ) → 6 ≤ load (holdi
 refused-left s fits file six = go (load-ends s fits file)
   where
     go : Ending s (load (holding s) fits file) → load (holding s) fits file .left ≡ now (marked broken s)
-    go (done d) = absurd (omega (arith, d))
-    go (ahead k _ _ l) = let n = load (holding s) fits file .answer .number in absurd (omega (arith, between-high 1 5 n k))
+    go (done d _) = absurd (omega (arith, d))
+    go (ahead k _ _ _ l) = let n = load (holding s) fits file .answer .number in absurd (omega (arith, between-high 1 5 n k))
     go (forFile k _ l) = l
 
 -- the mark is no part of what soundness asks
@@ -142,7 +143,7 @@ fits work e = eq-eqb (length work) workSize e
 
 -- what is then refused
 module _ (cells : List ℕ) (b : BrokenCells cells) where
-  pub load-shut : (work file : List ℕ) (r : LoadAnswer) (after : List ℕ) → workFits work ≡ true → Called (load (lent cells) (workFits work) file) cells r after → r ≡ loadAnswer 3 0 0
+  pub load-shut : (work file : List ℕ) (r : LoadAnswer) (after : List ℕ) → workFits work ≡ true → Called (load (lent cells) (workFits work) file) cells r after → r ≡ loadAnswer 3 0 0 0
   load-shut work file r after fits c =
       answer-is (λ m. load m (workFits work) file) cells after r c (holding (b .state)) (b .held) (loadStopped 3)
       (ap (λ (f : Bool). load (holding (b .state)) f file) fits ∙ load-broken (b .state) file (b .mark))
@@ -171,7 +172,7 @@ work-cleared work after e = ((λ fits. e ∙ rw (eq-eqb (length work) workSize f
 
 -- ---- behind END
 
-pub load-shut-out : (cells work file : List ℕ) (s : State) (r : LoadAnswer) (after : List ℕ) → lent cells ≡ holding (marked frozen s) → workFits work ≡ true → Called (load (lent cells) (workFits work) file) cells r after → r ≡ loadAnswer 4 0 0
+pub load-shut-out : (cells work file : List ℕ) (s : State) (r : LoadAnswer) (after : List ℕ) → lent cells ≡ holding (marked frozen s) → workFits work ≡ true → Called (load (lent cells) (workFits work) file) cells r after → r ≡ loadAnswer 4 0 0 0
 load-shut-out cells work file s r after held fits c =
     let f = marked frozen s in
     answer-is (λ m. load m (workFits work) file) cells after r c (holding f) held (loadStopped 4)

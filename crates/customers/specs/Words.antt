@@ -1,13 +1,17 @@
 -- The customers' contracts, in the user's words.
 use Prim.Native.Nat.{ℕ, _+_, _*_, _≤_, _<_}
-use mathlib.Core.Bool.{true, false}
-use mathlib.Core.List.{List, [], _∷_}
+use mathlib.Core.Bool.{true, false, not}
+use mathlib.Core.List.{List, [], _∷_, _++_}
 use mathlib.Core.Logic.{_≢_}
+use mathlib.Core.Option.{some}
 use mathlib.Core.Path.{_≡_}
 use lib.ListN.{length, getD, take, replicate}
+use lib.Dec.{eqb}
 use Rattle.rules.specs.Limits.{longestFile, workSize}
-use Rattle.rules.specs.Text.{isName, packName}
-use Rattle.rules.specs.Reading.{Module, section, readingOf, itemsOf}
+use Rattle.rules.specs.Text.{linesOf, isName, packName}
+use Rattle.rules.specs.Answers.{isLineFault}
+use Rattle.rules.specs.Faults.{faultNumber, faultsOf, leftmost}
+use Rattle.rules.specs.Reading.{Module, section, unread as nothing-read, readLines, readingOf, itemsOf}
 use Rattle.rules.specs.State.{State, state, unmarked, noWords, placedWords}
 use Rattle.rules.specs.Lookup.{nameAt}
 use Rattle.rules.specs.Load.{progress, walking, searched, walkFrom, takenIn, sectionsIn}
@@ -15,7 +19,8 @@ use Rattle.rules.specs.Image.{imageOf}
 use Rattle.rules.specs.Calls.{holding, workAfter, loadAnswer, callAnswer, endAnswer, symbolAt}
 use Rattle.rules.specs.Demand.{LeastSufficient}
 use Rattle.rules.specs.History.{resetting, loading, ending, ofCall, ofLoad, ofEnd}
-use Rattle.rules.specs.declared.reading.Reading.the-variants.{Stopped}
+use Rattle.rules.specs.declared.line.Fault.{Fault}
+use Rattle.rules.specs.declared.reading.Reading.the-variants.{Complete, Stopped}
 use Rattle.rules.specs.declared.answer.LoadAnswer.{LoadAnswer}
 use Rattle.rules.specs.declared.answer.CallAnswer.{CallAnswer}
 use Rattle.rules.specs.declared.answer.SymbolAnswer.{SymbolAnswer}
@@ -86,9 +91,17 @@ pub record LoadKept (before work file : List ℕ) (r : LoadAnswer) (after used :
   -- refused, it leaves every cell as it was but the mark; refused ahead of reading, by 1 to 5, the mark too
   pub kept : r .number ≢ 0 → SameButMark before after
   pub unread : r .number ≢ 0 → r .number ≤ 5 → after ≡ before
-  -- a file that cannot be read is refused by the number of its first fault, at that line
+  -- a file that cannot be read is refused by the number of its first fault, at that line and column
   pub told : (s : State) (k n c : ℕ) → lent before ≡ holding s → s .mark ≡ unmarked → length work ≡ workSize →
-      length file ≤ longestFile → readingOf file ≡ Stopped k n c → r ≡ loadAnswer k n 0
+      length file ≤ longestFile → readingOf file ≡ Stopped k n c → r ≡ loadAnswer k n c 0
+  -- of the first line that has faults, whatever stands behind it, the leftmost is told, by its number
+  pub leftmost-told : (s : State) (ls more : List (List ℕ)) (line : List ℕ) (f : Fault) →
+      lent before ≡ holding s → s .mark ≡ unmarked → length work ≡ workSize → length file ≤ longestFile →
+      linesOf file ≡ ls ++ (line ∷ more) → readLines nothing-read ls .fault ≡ Complete →
+      leftmost (faultsOf (readLines nothing-read ls .mode .expected) line) ≡ some f →
+      r ≡ loadAnswer (faultNumber (f .kind)) (length ls + 1) (f .column) 0
+  -- no answer but the fault of a line names a column
+  pub columns : eqb (r .column) 0 ≡ not (isLineFault (r .number))
   -- work memory that is lent with junk comes back zero, refused or not; of another length it comes back as it was
   pub cleared : length work ≡ workSize → used ≡ replicate workSize 0
   pub untouched : length work ≢ workSize → used ≡ work
@@ -107,7 +120,7 @@ Listed before file i r listed =
 
 -- ---- behind a load that was refused for its file
 
--- such a load was answered by 6 to 14
+-- such a load was answered by 6 to 14, or by 17 to 21
 abbrev pub Broke : LoadAnswer → Type 0
 Broke r = 6 ≤ r .number
 

@@ -20,7 +20,7 @@ pub struct LoadAgain {
 
 // After a load that was refused for its file, a load of any file is refused by 3.
 pub fn load_again(state: &mut [u64], work: &mut [u64], file: &[u8], other: &[u8]) -> LoadAgain
-    ensures { λ r. ⌜ (Broke (r .first) → r .second ≡ loadAnswer 3 0 0) ⌝ }
+    ensures { λ r. ⌜ (Broke (r .first) → r .second ≡ loadAnswer 3 0 0 0) ⌝ }
 {
     let first = lnk100_load(state, work, file);
     let second = lnk100_load(state, work, other);
@@ -73,7 +73,7 @@ pub fn load_after_end(
     file: &[u8],
     out: &mut [u8],
 ) -> LoadAndEnd
-    ensures { λ r. ⌜ (r .end .number ≡ 0 → length (now (work .entry)) ≡ workSize → r .load ≡ loadAnswer 4 0 0) ⌝ }
+    ensures { λ r. ⌜ (r .end .number ≡ 0 → length (now (work .entry)) ≡ workSize → r .load ≡ loadAnswer 4 0 0 0) ⌝ }
 {
     let end = lnk100_end(state, out);
     let load = lnk100_load(state, work, file);

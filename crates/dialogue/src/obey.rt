@@ -10,6 +10,7 @@ use crate::page::front;
 use crate::page::put_high;
 use crate::page::say;
 use crate::refusals::refused;
+use crate::refusals::refused_at;
 use crate::refusals::tell;
 use rules::answer::DONE;
 use text::numbers::Number;
@@ -23,7 +24,7 @@ fn load_file(state: &mut [u64], work: &mut [u64], room: &mut [u8], path: &[u8]) 
     }
     let a = linker::lnk100_load(state, work, front(room, r.length));
     if a.number != DONE {
-        refused(room, a.number, a.line);
+        refused_at(room, a.number, a.line, a.column);
         return;
     }
     let u = linker::lnk100_undefined(state, 0);

@@ -14,7 +14,16 @@ fn put_answer(page: &mut [u8], at: usize, number: u64) -> usize {
     put_text(page, at, front(&bytes, n.length))
 }
 
-pub fn refused(page: &mut [u8], number: u64, line: u64) {
+// A column of 0 is none, and is not told.
+fn put_column(page: &mut [u8], at: usize, column: u64) -> usize {
+    if column == 0 {
+        return at;
+    }
+    let end = put_text(page, at, b" COLUMN ");
+    put_number(page, end, column)
+}
+
+pub fn refused_at(page: &mut [u8], number: u64, line: u64, column: u64) {
     if number == RESET {
         say(b"RESET!!!\n");
     }
@@ -24,8 +33,14 @@ pub fn refused(page: &mut [u8], number: u64, line: u64) {
     end = put_number(page, end, number);
     end = put_text(page, end, b" LINE ");
     end = put_number(page, end, line);
+    end = put_column(page, end, column);
     end = put(page, end, b'\n');
     say(front(page, end));
+}
+
+// The answer of a call that names no column.
+pub fn refused(page: &mut [u8], number: u64, line: u64) {
+    refused_at(page, number, line, 0);
 }
 
 // Nothing where the call was done.

@@ -4,6 +4,7 @@ use Prim.Native.Nat.{ℕ, _+_, _-_, _≤_, _<_}
 use native.Mathlib.Omega.{arith}
 use mathlib.Core.Bool.{Bool, true, false}
 use mathlib.Core.List.{List, [], _∷_}
+use mathlib.Core.Option.{some}
 use mathlib.Core.Path.{_≡_, refl, sym, ap, ap₂, _∙_}
 use lib.ListN.{length}
 use Rattle.rules.proofs.line.LineAnswer.{the-type}
@@ -11,7 +12,7 @@ use types.Run.{OneOf, miss}
 use denote.Enum.Declared.{tagOf}
 use borrow.Author.Tests.{le-leb, lt-leb}
 use Rattle.rules.specs.Text.{fieldsOf, legalFront}
-use Rattle.rules.specs.Line.{fault, fieldsSay, lineOf, faultWithin, testBytes, lineAnswer}
+use Rattle.rules.specs.Line.{fault, Shape, readAs, shapeFor, sayFields, lineOf, faultIn, within, testBytes, lineAnswer}
 use Rattle.rules.specs.declared.line.Fault.{Fault}
 use Rattle.rules.specs.declared.line.FaultKind.the-variants.{IllegalByte}
 use Rattle.rules.specs.declared.line.Expected.{Expected}
@@ -26,8 +27,8 @@ use Rattle.line.specs.Fitting.{lineFields, endColumn}
 -- ---- the bytes
 
 -- an answer of another variant is no fault
-no-fault : (n : ℕ) (a : LineAnswer) → OneOf (1 ∷ 2 ∷ 3 ∷ 4 ∷ 5 ∷ 6 ∷ 7 ∷ 8 ∷ 9 ∷ 10 ∷ []) (tagOf the-type a) → faultWithin n a ≡ false
-unfolding faultWithin
+no-fault : (n : ℕ) (a : LineAnswer) → OneOf (1 ∷ 2 ∷ 3 ∷ 4 ∷ 5 ∷ 6 ∷ 7 ∷ 8 ∷ 9 ∷ 10 ∷ []) (tagOf the-type a) → within n (faultIn a) ≡ false
+unfolding faultIn within
 no-fault n (Bad f) h = absurd (miss (1 ∷ 2 ∷ 3 ∷ 4 ∷ 5 ∷ 6 ∷ 7 ∷ 8 ∷ 9 ∷ 10 ∷ []) 0 tt h)
 no-fault n Blank h = refl
 no-fault n (Head x) h = refl
@@ -47,16 +48,16 @@ module _ (front size : ℕ) (a : LineAnswer) where
 
   module _ (h : front < size) where
     pub fault-first : {f : Fault} → a ≡ Bad f → f .column ≤ front → Bad f ≡ testBytes front size a
-    unfolding testBytes faultWithin
+    unfolding testBytes faultIn within
     fault-first e g = rw e (simp (lt-leb size front h, le-leb _ front g))
 
     -- the fault, if there is any, stands further right
-    byte-first : faultWithin front a ≡ false → {o : LineAnswer} → o ≡ Bad (fault IllegalByte (front + 1)) → o ≡ testBytes front size a
+    byte-first : within front (faultIn a) ≡ false → {o : LineAnswer} → o ≡ Bad (fault IllegalByte (front + 1)) → o ≡ testBytes front size a
     unfolding testBytes
     byte-first n p = p ∙ simp (lt-leb size front h, n)
 
     pub byte-before : {f : Fault} → a ≡ Bad f → front < f .column → {o : LineAnswer} → o ≡ Bad (fault IllegalByte (front + 1)) → o ≡ testBytes front size a
-    unfolding faultWithin
+    unfolding faultIn within
     byte-before e g p = byte-first (rw e (lt-leb _ front g)) p
 
     pub byte-only : OneOf (1 ∷ 2 ∷ 3 ∷ 4 ∷ 5 ∷ 6 ∷ 7 ∷ 8 ∷ 9 ∷ 10 ∷ []) (tagOf the-type a) → {o : LineAnswer} → o ≡ Bad (fault IllegalByte (front + 1)) → o ≡ testBytes front size a
@@ -70,12 +71,14 @@ module _ (w : Expected) {at stop : ℕ} {l : List ℕ} (h : InFile at stop l) wh
 
   module _ {s : ℕ} (e : s ≡ fieldStart at stop l) where
     pub line-blank : s ≡ stop → Says Blank
-    unfolding fieldsOf lineOf
+    unfolding fieldsOf lineOf sayFields
     line-blank g = rw (no-field at stop s l h e g 1)
 
-    pub line-fields : s < stop → {a : LineAnswer} → a ≡ fieldsSay w (endColumn at stop) (lineFields at stop l) → Says a
-    unfolding fieldsOf lineOf
-    line-fields g p = p ∙ rw (field-found at stop s l h e g _ refl .anywhere 1)
+    -- where there is a field, a shape tells what the line says
+    pub line-shaped : s < stop → {x : Shape} {a : LineAnswer} → a ≡ readAs x (endColumn at stop) (lineFields at stop l) →
+        shapeFor w (lineFields at stop l) ≡ some x → Says a
+    unfolding fieldsOf lineOf sayFields
+    line-shaped g p q = p ∙ rw (q, field-found at stop s l h e g _ refl .anywhere 1)
 
   pub line-whole : {front : ℕ} {a o : LineAnswer} → front ≡ legalFront 80 (part at stop l) → Says o → a ≡ testBytes front (stop - at) o →
       a ≡ lineAnswer w (part at stop l)

@@ -10,8 +10,9 @@ use lib.ListN.{length}
 use lib.Dec.{eqb, ltb}
 use borrow.Author.Tests.{ltb-true, ltb-false}
 use Rattle.rules.specs.Text.{Field, fieldsFrom, fieldsOf, numberOf}
-use Rattle.rules.specs.Line.{Row, headers, rowIn, rowOf, fault, fit, said, readAs, sayHeader, rowAt, firstText, headerLine}
+use Rattle.rules.specs.Line.{Row, headers, rowIn, rowOf, fault, fit, said, readAs, headerShapeIn, rowAt, firstText, shapeFor, sayFields, lineOf}
 use Rattle.rules.specs.declared.line.FaultKind.the-variants.{BadMarker}
+use Rattle.rules.specs.declared.line.Expected.the-variants.{AnyHeader}
 use Rattle.rules.specs.declared.line.LineAnswer.{LineAnswer}
 use Rattle.rules.specs.declared.line.LineAnswer.the-variants.{Bad, Blank}
 use Rattle.rules.proofs.BoolLaws.{never}
@@ -50,23 +51,23 @@ known-small k e = go (ltb k 12) refl
 
 -- a known code is read as its shape, and an unknown one is a fault
 as-shape : (end : ℕ) (f : Field) (fs : List Field) (o : Option Row) → known o ≡ true →
-    said (rowShape o .says) (fit end (rowShape o .kinds) (f ∷ fs)) ≡ sayHeader end (f ∷ fs) o
-unfolding known rowShape sayHeader readAs
+    said (rowShape o .says) (fit end (rowShape o .kinds) (f ∷ fs)) ≡ sayFields end (f ∷ fs) (headerShapeIn o)
+unfolding known rowShape headerShapeIn sayFields readAs
 as-shape end f fs none e = never e refl
 as-shape end f fs (some r) e = refl
 
 as-fault : (end : ℕ) (f : Field) (fs : List Field) (o : Option Row) → known o ≡ false →
-    Bad (fault BadMarker (f .column)) ≡ sayHeader end (f ∷ fs) o
-unfolding known sayHeader
+    Bad (fault BadMarker (f .column)) ≡ sayFields end (f ∷ fs) (headerShapeIn o)
+unfolding known headerShapeIn sayFields
 as-fault end f fs none e = refl
 as-fault end f fs (some r) e = never refl e
 
 module _ {at stop s : ℕ} {l : List ℕ} (h : InFile at stop l) (e : s ≡ fieldStart at stop l) where
   abbrev Says : LineAnswer → Type 0
-  Says a = a ≡ headerLine (endColumn at stop) (lineFields at stop l)
+  Says a = a ≡ lineOf AnyHeader (endColumn at stop) (lineFields at stop l)
 
   pub header-blank : s ≡ stop → Says Blank
-  unfolding fieldsOf headerLine sayHeader
+  unfolding fieldsOf lineOf sayFields
   header-blank g = rw (no-field at stop s l h e g 1)
 
   module _ (g : s < stop) (t : List ℕ) (b : t ≡ part (fieldStart s stop l) (fieldStop s stop l) l) where
@@ -79,8 +80,9 @@ module _ {at stop s : ℕ} {l : List ℕ} (h : InFile at stop l) (e : s ≡ fiel
         let c : 1 + (s - at) ≡ s - at + 1 = omega arith in
         field-found at stop s l h e g t b .anywhere 1 ∙ ap (λ (n : ℕ). field n t ∷ others) c
 
-    line-is : sayHeader (endColumn at stop) (field (s - at + 1) t ∷ others) (rowAt (numberOf t)) ≡ headerLine (endColumn at stop) (lineFields at stop l)
-    unfolding headerLine firstText
+    line-is : sayFields (endColumn at stop) (field (s - at + 1) t ∷ others) (headerShapeIn (rowAt (numberOf t)))
+        ≡ lineOf AnyHeader (endColumn at stop) (lineFields at stop l)
+    unfolding lineOf shapeFor firstText
     line-is = rw fields-are
 
     module _ {r : Number} (a : numberIn r ≡ numberOf t) where

@@ -9,7 +9,7 @@ use mathlib.Core.List.{List, [], _∷_, _++_}
 use mathlib.Core.Path.{_≡_, refl, sym, ap, _∙_}
 use lib.ListN.{length, replicate, length-append}
 use Rattle.rules.specs.Text.{Field, numberOf}
-use Rattle.rules.specs.Line.{nth, number, misfit, fault, fit, said, readAs, recordShape, wordOf, codeWord, starred, codeLine, isOne, textAt, entryLine}
+use Rattle.rules.specs.Line.{nth, number, misfit, fault, fit, said, readAs, recordShape, wordOf, codeWord, starred, codeShape, isOne, textAt, entryShape}
 use Rattle.rules.specs.declared.line.FaultKind.{FaultKind}
 use Rattle.rules.specs.declared.line.FaultKind.the-variants.{FieldCount, BadNumber}
 use Rattle.rules.specs.declared.line.Kind.{Kind}
@@ -29,16 +29,16 @@ use Rattle.line.proofs.FitLaws.{Fitting, fitting-start, fitting-few, fi
 -- ---- records of two shapes
 
 module _ (end : ℕ) (fs : List Field) where
-  pub code-starred : starred fs ≡ true → shapeLine 12 end fs ≡ codeLine end fs
-  unfolding readAs shapeOf records recordShape codeLine
+  pub code-starred : starred fs ≡ true → shapeLine 12 end fs ≡ readAs (codeShape fs) end fs
+  unfolding readAs shapeOf records recordShape codeShape
   code-starred e = rw e
 
-  pub entry-relocated : isOne (numberOf (textAt fs 2)) ≡ true → shapeLine 13 end fs ≡ entryLine end fs
-  unfolding readAs shapeOf records recordShape entryLine
+  pub entry-relocated : isOne (numberOf (textAt fs 2)) ≡ true → shapeLine 13 end fs ≡ readAs (entryShape fs) end fs
+  unfolding readAs shapeOf records recordShape entryShape
   entry-relocated e = rw e
 
-  pub entry-absolute : isOne (numberOf (textAt fs 2)) ≡ false → shapeLine 14 end fs ≡ entryLine end fs
-  unfolding readAs shapeOf records recordShape entryLine
+  pub entry-absolute : isOne (numberOf (textAt fs 2)) ≡ false → shapeLine 14 end fs ≡ readAs (entryShape fs) end fs
+  unfolding readAs shapeOf records recordShape entryShape
   entry-absolute e = rw e
 
 -- ---- the loop over four quarters
@@ -90,10 +90,10 @@ quarters-start at stop l h s =
 
 module _ {at stop : ℕ} {l : List ℕ} {text i k : ℕ} (q : Quarters at stop l text i k) where
   abbrev Says : LineAnswer → Type 0
-  Says a = a ≡ codeLine (endColumn at stop) (lineFields at stop l)
+  Says a = a ≡ readAs (codeShape (lineFields at stop l)) (endColumn at stop) (lineFields at stop l)
 
   told : {j : FaultKind} {c : ℕ} {a : LineAnswer} → a ≡ Bad (fault j c) → misfit (fault j c) ≡ fit (endColumn at stop) quarters (lineFields at stop l) → Says a
-  unfolding codeLine readAs recordShape said
+  unfolding codeShape readAs recordShape said
   told b e = b ∙ rw (q .plain, ← e)
 
   -- the text fits with room for one quarter more
@@ -134,7 +134,7 @@ module _ {at stop : ℕ} {l : List ℕ} {text i k : ℕ} (q : Quarters at stop l
     quarters-many g b = told b (fitting-many s e last g)
 
     pub quarters-end : stop ≤ s → Says (Code (codeWord text Plain))
-    unfolding codeLine readAs recordShape said
+    unfolding codeShape readAs recordShape said
     quarters-end g =
         let n : length (q .done) ≡ 4 = omega (arith, q .count, q .few) in
         rw (q .plain, ← (fitting-end s e last g), q .is, joined-four (q .done) n)

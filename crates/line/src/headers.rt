@@ -8,7 +8,8 @@ use text::fields::next_field;
 use text::numbers::Number;
 use text::numbers::read_number;
 ghost use mathlib.Core.Path.{_≡_};
-ghost use Rattle.rules.specs.Line.{rowOf, headerLine};
+ghost use Rattle.rules.specs.Line.{rowOf, lineOf};
+ghost use Rattle.rules.specs.declared.line.Expected.the-variants.{AnyHeader};
 ghost use Rattle.text.specs.Scan.{InFile};
 ghost use Rattle.line.specs.Fitting.{endColumn, lineFields};
 ghost use Rattle.line.specs.Shapes.{known};
@@ -22,7 +23,7 @@ fn is_block(code: u16) -> bool
 
 pub fn header_line(file: &[u8], at: usize, stop: usize) -> LineAnswer
     requires { ⌜ InFile at stop (now file) ⌝ }
-    ensures { λ r. ⌜ r ≡ headerLine (endColumn at stop) (lineFields at stop (now (file .entry))) ⌝ }
+    ensures { λ r. ⌜ r ≡ lineOf AnyHeader (endColumn at stop) (lineFields at stop (now (file .entry))) ⌝ }
 {
     let start = field_start(file, at, stop);
     if start == stop {

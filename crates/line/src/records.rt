@@ -18,7 +18,7 @@ use text::numbers::read_number;
 ghost use mathlib.Core.Bool.{false};
 ghost use mathlib.Core.Path.{_≡_};
 ghost use Rattle.rules.specs.Text.{numberOf};
-ghost use Rattle.rules.specs.Line.{starred, codeLine, isOne, textAt, entryLine};
+ghost use Rattle.rules.specs.Line.{readAs, starred, codeShape, isOne, textAt, entryShape};
 ghost use Rattle.text.specs.Scan.{InFile};
 ghost use Rattle.text.specs.FieldBounds.{PartOf};
 ghost use Rattle.line.specs.Fitting.{endColumn, lineFields, FieldPassed};
@@ -27,7 +27,7 @@ ghost use Rattle.line.specs.Fitting.{endColumn, lineFields, FieldPassed}
 fn plain_line(file: &[u8], at: usize, stop: usize) -> LineAnswer
     requires { ⌜ InFile at stop (now file) ⌝ }
     requires { ⌜ starred (lineFields at stop (now file)) ≡ false ⌝ }
-    ensures { λ r. ⌜ r ≡ codeLine (endColumn at stop) (lineFields at stop (now (file .entry))) ⌝ }
+    ensures { λ r. ⌜ r ≡ readAs (codeShape (lineFields at stop (now (file .entry)))) (endColumn at stop) (lineFields at stop (now (file .entry))) ⌝ }
 {
     let mut text: u64 = 0;
     let mut i = at;
@@ -75,7 +75,7 @@ fn is_starred(file: &[u8], at: usize, stop: usize) -> bool
 
 pub fn code_line(file: &[u8], at: usize, stop: usize) -> LineAnswer
     requires { ⌜ InFile at stop (now file) ⌝ }
-    ensures { λ r. ⌜ r ≡ codeLine (endColumn at stop) (lineFields at stop (now (file .entry))) ⌝ }
+    ensures { λ r. ⌜ r ≡ readAs (codeShape (lineFields at stop (now (file .entry)))) (endColumn at stop) (lineFields at stop (now (file .entry))) ⌝ }
 {
     if is_starred(file, at, stop) {
         return read_as(file, at, stop, STARRED);
@@ -114,7 +114,7 @@ fn is_one(field: &[u8]) -> bool
 // An entry's type, its third field, tells whether a fourth has to follow.
 pub fn entry_line(file: &[u8], at: usize, stop: usize) -> LineAnswer
     requires { ⌜ InFile at stop (now file) ⌝ }
-    ensures { λ r. ⌜ r ≡ entryLine (endColumn at stop) (lineFields at stop (now (file .entry))) ⌝ }
+    ensures { λ r. ⌜ r ≡ readAs (entryShape (lineFields at stop (now (file .entry)))) (endColumn at stop) (lineFields at stop (now (file .entry))) ⌝ }
 {
     if is_one(third_field(file, at, stop)) {
         return read_as(file, at, stop, RELOCATED);

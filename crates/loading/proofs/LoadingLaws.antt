@@ -44,24 +44,24 @@ module _ (items : List Item) (before after : List ℕ) (n : ℕ) (w : WalkSoFar)
   ends = went .does (progress (walking (decode before)) 0) (begins before)
 
   pub walk-accepted :
-      w .refusal .number ≡ 0 → a ≡ loadAnswer 0 0 (w .rounds) → Loads (walked (decode before) whole) before a after
+      w .refusal .number ≡ 0 → a ≡ loadAnswer 0 0 0 (w .rounds) → Loads (walked (decode before) whole) before a after
   unfolding walked cellsAfter
   walk-accepted e p =
       rw (goes-on (ends .agrees) e)
       (record {
-        answer = p ∙ ap (loadAnswer 0 0) (ends .rounds-are);
+        answer = p ∙ ap (loadAnswer 0 0 0) (ends .rounds-are);
         cells = went .good .encoded ∙ ap encode (ends .agrees .state-is e);
       })
 
   -- `back` is what was put back
   pub walk-refused :
       (left back : List ℕ) → back ≡ before → w .refusal .number ≢ 0 → Holds left (marked broken (decode back))
-      → a ≡ loadAnswer (w .refusal .number) (w .refusal .line) 0 → Loads (walked (decode before) whole) before a left
+      → a ≡ loadAnswer (w .refusal .number) (w .refusal .line) 0 0 → Loads (walked (decode before) whole) before a left
   unfolding walked cellsAfter
   walk-refused left back same z h p =
       rw (stands (ends .agrees) z)
       (record {
-        answer = p ∙ ap (λ (r : Refusal). loadAnswer (r .number) (r .line) 0) (ends .agrees .refusal-is);
+        answer = p ∙ ap (λ (r : Refusal). loadAnswer (r .number) (r .line) 0 0) (ends .agrees .refusal-is);
         cells = held-cells h ∙ ap (λ b. encode (marked broken (decode b))) same;
       })
 
@@ -69,7 +69,7 @@ module _ (items : List Item) (before after : List ℕ) (n : ℕ) (w : WalkSoFar)
 
 module _ (s : State) (file before : List ℕ) (a : LoadAnswer) (after : List ℕ) where
   pub file-stopped :
-      (k n c : ℕ) → Stopped k n c ≡ readingOf file → Holds after (marked broken s) → a ≡ loadAnswer k n 0
+      (k n c : ℕ) → Stopped k n c ≡ readingOf file → Holds after (marked broken s) → a ≡ loadAnswer k n c 0
       → Loads (loadFile s file) before a after
   unfolding loadFile loadRead cellsAfter
   file-stopped k n c e h p = subst (λ r. Loads (loadRead s file r) before a after) e (record { answer = p; cells = held-cells h })
@@ -99,7 +99,7 @@ module _ (cells : List ℕ) (s : State) (h : lent cells ≡ holding s) (file : L
       subst (λ (o : Outcome LoadAnswer). Called o cells a after) (sym is) d
 
 module _ (cells : List ℕ) (work file : List ℕ) (a : LoadAnswer) (after : List ℕ) where
-  pub load-room : length work ≢ 65536 → a ≡ loadAnswer 1 0 0 → Called (load (lent cells) (eqb (length work) 65536) file) cells a cells
+  pub load-room : length work ≢ 65536 → a ≡ loadAnswer 1 0 0 0 → Called (load (lent cells) (eqb (length work) 65536) file) cells a cells
   unfolding load
   load-room z p = called-stopped _ _ cells a (simp (ne-eqb (length work) 65536 z)) p
 

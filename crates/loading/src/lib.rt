@@ -33,12 +33,13 @@ ghost use Rattle.state.specs.Promise.{Called, LoadCalled};
 // The fixed length of work memory, which holds the parts of a file's modules.
 const WORK_CELLS: usize = PART_ROOM;
 
-fn answer(number: u64, line: u64, rounds: u64) -> LoadAnswer
-    ensures { λ r. ⌜ r ≡ loadAnswer number line rounds ⌝ }
+fn answer(number: u64, line: u64, column: u64, rounds: u64) -> LoadAnswer
+    ensures { λ r. ⌜ r ≡ loadAnswer number line column rounds ⌝ }
 {
     LoadAnswer {
         number,
         line,
+        column,
         rounds,
     }
 }
@@ -54,11 +55,11 @@ fn walk_file(parts: &[u64], rows: &[u64], n: usize, state: &mut [u64]) -> LoadAn
     copy(state, &mut before);
     let far = walk(parts, rows, n, state);
     if far.refusal.number == DONE {
-        return answer(DONE, 0, far.rounds as u64);
+        return answer(DONE, 0, 0, far.rounds as u64);
     }
     copy(&before, state);
     set_mark(state, BROKEN);
-    answer(far.refusal.number, far.refusal.line, 0)
+    answer(far.refusal.number, far.refusal.line, 0, 0)
 }
 
 // The reading, into the caller's work memory and rows of its own; then the walk.
@@ -71,9 +72,13 @@ fn load_file(state: &mut [u64], work: &mut [u64], file: &[u8]) -> LoadAnswer
     let f = read_file(file, work, &mut rows);
     let reading = f.reading;
     match reading {
-        Reading::Stopped { number, line, .. } => {
+        Reading::Stopped {
+            number,
+            line,
+            column,
+        } => {
             set_mark(state, BROKEN);
-            answer(number, line as u64, 0)
+            answer(number, line as u64, column as u64, 0)
         }
         Reading::Complete => walk_file(work, &rows, f.rows, state),
     }
@@ -86,14 +91,14 @@ fn load_tested(state: &mut [u64], work: &mut [u64], file: &[u8]) -> LoadAnswer
 {
     let k = refusal(state);
     if k != DONE {
-        return answer(k, 0, 0);
+        return answer(k, 0, 0, 0);
     }
     let shut = shut_by(state);
     if shut != DONE {
-        return answer(shut, 0, 0);
+        return answer(shut, 0, 0, 0);
     }
     if LONGEST_FILE < file.len() {
-        return answer(TOO_LONG, 0, 0);
+        return answer(TOO_LONG, 0, 0, 0);
     }
     load_file(state, work, file)
 }
@@ -103,7 +108,7 @@ pub fn load(state: &mut [u64], work: &mut [u64], file: &[u8]) -> LoadAnswer
     ensures { λ r. ⌜ LoadCalled (load-outcome (lent (now (state .entry))) (workFits (now (work .entry))) (now (file .entry))) (now (state .entry)) (now (work .entry)) r (now (state .exit)) (now (work .exit)) ⌝ }
 {
     if work.len() != WORK_CELLS {
-        return answer(BUFFER, 0, 0);
+        return answer(BUFFER, 0, 0, 0);
     }
     let a = load_tested(state, work, file);
     clear(work, WORK_CELLS);

@@ -9,7 +9,7 @@ use lib.ListN.{length}
 use lib.Dec.{eqb, leb}
 use Rattle.rules.specs.Limits.{longestLine}
 use Rattle.rules.specs.Text.{bytes, space, sameText, Field, startsField, widenField, addToFields, fieldsFrom, fieldsOf, numberOf, legalFront}
-use Rattle.rules.specs.Line.{Row, headers, rowIn, rowOf, markerIn, markerOf, Held, value, wrong, readField, Fitted, fits, misfit, inFront, fit, said, readAs, headerShape, sayHeader, rowAt, firstText, headerLine, fieldsSay, lineOf, fault, faultWithin, testBytes, lineAnswer}
+use Rattle.rules.specs.Line.{Row, headers, rowIn, rowOf, markerIn, markerOf, Held, value, wrong, readField, Fitted, fits, misfit, inFront, fit, said, readAs, headerShape, headerShapeIn, rowAt, firstText, shapeFor, sayFields, lineOf, fault, faultIn, within, testBytes, lineAnswer}
 use Rattle.rules.specs.declared.line.FaultKind.the-variants.{IllegalByte, BadMarker}
 use Rattle.rules.specs.declared.line.Kind.{Kind}
 use Rattle.rules.specs.declared.line.Kind.the-variants.{Marker}
@@ -135,23 +135,22 @@ module _ (n end : ℕ) where
       go (fits vs) m = omega arith
       go (misfit f) m = tt
 
-  header-says : (fs : List Field) (r : Option Row) → FoundLong r → textBytes fs ≤ n → Long n (sayHeader end fs r)
-  unfolding sayHeader
+  header-says : (fs : List Field) (r : Option Row) → FoundLong r → textBytes fs ≤ n → Long n (sayFields end fs (headerShapeIn r))
+  unfolding sayFields headerShapeIn
   header-says [] r h l = tt
   header-says (f ∷ fs) none h l = tt
   header-says (f ∷ fs) (some r) h l = shape-says r f fs h l
 
   fields-long : (fs : List Field) → textBytes fs ≤ n → Long n (lineOf AnyHeader end fs)
-  unfolding lineOf fieldsSay headerLine
-  fields-long [] l = tt
-  fields-long (f ∷ fs) l = header-says (f ∷ fs) _ (row-at (numberOf (firstText (f ∷ fs)))) l
+  unfolding lineOf shapeFor
+  fields-long fs l = header-says fs _ (row-at (numberOf (firstText fs))) l
 
 tested : (n front size : ℕ) (a : LineAnswer) → Long n a → Long n (testBytes front size a)
 unfolding testBytes
 tested n front size a h =
     let illegal = Bad (fault IllegalByte (front + 1)) in
-    cond-cases (Long n) (leb size front) a (cond (faultWithin front a) a illegal) (λ _. h)
-    (λ _. cond-cases (Long n) (faultWithin front a) a illegal (λ _. h) (λ _. tt))
+    cond-cases (Long n) (leb size front) a (cond (within front (faultIn a)) a illegal) (λ _. h)
+    (λ _. cond-cases (Long n) (within front (faultIn a)) a illegal (λ _. h) (λ _. tt))
 
 -- a line of which a header is expected, and which is one, has six bytes
 pub header-long : (line : List ℕ) → Long (length line) (lineAnswer AnyHeader line)

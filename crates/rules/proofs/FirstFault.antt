@@ -25,7 +25,7 @@ unfolding readLines
 lines-after [] r k n c e = refl
 lines-after (l ∷ ls) r k n c e = ap (λ q. readLines q ls) (line-after r l k n c e) ∙ lines-after ls r k n c e
 
-lines-append : (ls more : List (List ℕ)) (r : ReadSoFar) → readLines r (ls ++ more) ≡ readLines (readLines r ls) more
+pub lines-append : (ls more : List (List ℕ)) (r : ReadSoFar) → readLines r (ls ++ more) ≡ readLines (readLines r ls) more
 unfolding readLines
 lines-append [] more r = refl
 lines-append (l ∷ ls) more r = lines-append ls more (readLine r l)
@@ -71,7 +71,7 @@ line-counted r l clean =
     let step = stepAt (r .line) (r .mode) l in
     subst (Counted r) (sym (ap (λ f. ifComplete f (stepped r step) r) clean)) (step-counted r step)
 
-lines-counted : (ls : List (List ℕ)) (r : ReadSoFar) → readLines r ls .fault ≡ Complete → readLines r ls .line ≡ r .line + length ls
+pub lines-counted : (ls : List (List ℕ)) (r : ReadSoFar) → readLines r ls .fault ≡ Complete → readLines r ls .line ≡ r .line + length ls
 unfolding readLines
 lines-counted [] r e = omega arith
 lines-counted (l ∷ ls) r e =

@@ -179,8 +179,8 @@ load-stays s false file = λ a h. h
 load-stays s true file = go (load-ends s true file)
   where
     go : Ending s (load (holding s) true file) → Stay (s .words) (stateAfter s (load (holding s) true file .left) .words)
-    go (done e) = rw (load-accepted s file e .1) (items-stay s (itemsOf file) (progress (walking s) 0) (λ a h. h))
-    go (ahead _ _ _ l) = rw l (λ a h. h)
+    go (done e _) = rw (load-accepted s file e .1) (items-stay s (itemsOf file) (progress (walking s) 0) (λ a h. h))
+    go (ahead _ _ _ _ l) = rw l (λ a h. h)
     go (forFile _ _ l) = rw l (λ a h. h)
 
 pub placed-stays : (s : State) (c : Call) → c ≢ resetting → (a : ℕ) →

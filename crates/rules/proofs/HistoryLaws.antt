@@ -21,6 +21,7 @@ use Rattle.rules.proofs.TestLaws.{Every, every-found, between-low}
 use Rattle.rules.proofs.BoolLaws.{cond-cases, never, never-none}
 use Rattle.rules.proofs.SearchLaws.{search-keeps}
 use Rattle.rules.proofs.ReadingLaws.{ModuleSound, ItemSound, items-sound}
+use Rattle.rules.proofs.AnswerLaws.{right-fault, file-fault-low}
 use Rattle.rules.proofs.LoadLaws.{Ending, done, ahead, forFile, load-ends}
 use Rattle.rules.proofs.CallLaws.{force-words, base-words, end-words, fresh-size, fresh-count}
 use Rattle.rules.proofs.PlacingLaws.{place-passed, Coded, placed-length, placed-count}
@@ -151,14 +152,14 @@ unfolding called leftBy countPlaced stateAfter load
 load-grown s work file size = go (workFits work)
   where
     read : Ending s (load (holding s) true file) → Grown (countLoaded s true file) s (loadedBy s true file)
-    read (done e) =
+    read (done e _) =
         let d = load-accepted s file e in
         let g = grown-items (itemsOf file) (progress (walking s) 0) (items-sound file) size (d .0) in
         rw (eq-eqb (load (holding s) true file .answer .number) 0 e, d .1) g
-    read (ahead k _ _ l) =
+    read (ahead k _ _ _ l) =
         rw (ne-eqb (load (holding s) true file .answer .number) 0 (positive 1 5 _ k (omega arith)), l) (record { size = size; count = omega arith })
     read (forFile k _ l) =
-        rw (ne-eqb (load (holding s) true file .answer .number) 0 (positive 6 14 _ k (omega arith)), l) (record { size = size; count = omega arith })
+        rw (ne-eqb (load (holding s) true file .answer .number) 0 (λ z. let low = file-fault-low (load (holding s) true file .answer .number) (right-fault _ (load (holding s) true file .answer .column) k) in omega arith), l) (record { size = size; count = omega arith })
 
     go : (fits : Bool) → Grown (countLoaded s fits file) s (loadedBy s fits file)
     go false = record { size = size; count = omega arith }

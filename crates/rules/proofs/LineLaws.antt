@@ -9,7 +9,7 @@ use lib.ListN.{length, getD}
 use lib.Dec.{eqb, leb, ltb}
 use borrow.Author.Tests.{leb-true, le-leb, lt-ltb, ltb-true, eqb-false}
 use Rattle.rules.specs.Text.{Field, fieldsOf, numberOf, nameOf, between, isPacked, sameText}
-use Rattle.rules.specs.Line.{nth, Row, headers, rowIn, rowOf, Held, value, wrong, held, inBounds, readField, Fitted, fits, misfit, inFront, fit, Shape, said, readAs, headerShape, sayHeader, rowAt, firstText, headerLine, markerOf, wordOf, relocationOf, Record, linkedCode, plainCode, relocatedEntry, absoluteEntry, recordShape, starred, readRecord, codeLine, isOne, textAt, entryLine, fieldsSay, lineOf, faultWithin, testBytes, lineAnswer}
+use Rattle.rules.specs.Line.{nth, Row, headers, rowIn, rowOf, Held, value, wrong, held, inBounds, readField, Fitted, fits, misfit, inFront, fit, Shape, said, readAs, headerShape, headerShapeIn, rowAt, firstText, markerOf, wordOf, relocationOf, Record, linkedCode, plainCode, relocatedEntry, absoluteEntry, recordShape, starred, codeShape, isOne, textAt, entryShape, shapeFor, sayFields, lineOf, faultIn, within, testBytes, lineAnswer}
 use Rattle.rules.specs.declared.line.FaultKind.{FaultKind}
 use Rattle.rules.specs.declared.line.FaultKind.the-variants.{BadMarker, BadNumber, BadName}
 use Rattle.rules.specs.declared.line.Fault.{Fault}
@@ -181,9 +181,12 @@ values (k ∷ ks) [] h i = absurd h
 values (k ∷ ks) (v ∷ vs) h zero = h .0
 values (k ∷ ks) (v ∷ vs) h (suc i) = values ks vs (h .1) i
 
--- what a line of a shape says can be said, if it can be said of all values of the shape's kinds
-shape-told : (w : Expected) (s : Shape) → ((vs : List ℕ) → Values (s .kinds) vs → CanSay w (s .says vs)) →
-    (end : ℕ) (fs : List Field) → CanSay w (readAs s end fs)
+-- what can be said of all values of a shape's kinds
+abbrev Tells : Expected → Shape → Type 0
+Tells w s = ((vs : List ℕ) → Values (s .kinds) vs → CanSay w (s .says vs))
+
+-- then a line of the shape says what can be said
+shape-told : (w : Expected) (s : Shape) → Tells w s → (end : ℕ) (fs : List Field) → CanSay w (readAs s end fs)
 unfolding readAs said
 shape-told w s tells end fs = go (fit end (s .kinds) fs) (fit-holds end (s .kinds) fs)
   where
@@ -237,11 +240,15 @@ unfolding rowAt rowOf
 row-at none = tt
 row-at (some c) = row-in headers-legal c
 
-say-header : (end : ℕ) (fs : List Field) (r : Option Row) → FoundLegal r → CanSay AnyHeader (sayHeader end fs r)
-unfolding sayHeader
-say-header end [] r h = blank
-say-header end (f ∷ fs) none h = bad
-say-header end (f ∷ fs) (some r) h = shape-told AnyHeader (headerShape r) (λ vs at. head (h vs at)) end (f ∷ fs)
+-- a shape, if there is one
+abbrev TellsIn : Expected → Option Shape → Type 0
+TellsIn w none = Unit {0}
+TellsIn w (some s) = Tells w s
+
+header-told : (r : Option Row) → FoundLegal r → TellsIn AnyHeader (headerShapeIn r)
+unfolding headerShapeIn
+header-told none h = tt
+header-told (some r) h = λ vs at. head (h vs at)
 
 -- ---- data records
 
@@ -257,53 +264,56 @@ relocation-legal type arg l b = go (eqb type 5) refl
     go true e = b
     go false e = let other = eqb-false type 5 e in between-intro 1 4 type (l .0) (omega arith)
 
+code-told : (fs : List Field) → Tells CodeRecord (codeShape fs)
+unfolding codeShape recordShape legalWord legalRelocation
+code-told fs =
+    cond-cases (λ (r : Record). Tells CodeRecord (recordShape r)) (starred fs) linkedCode plainCode
+    (λ _ vs at. coded (and-intro (word-bound (at 1 .1) (at 2 .1) (at 3 .1) (at 4 .1)) (relocation-legal (nth vs 6) (nth vs 7) (at 6) (bounded (at 7)))))
+    (λ _ vs at. coded (and-intro (word-bound (at 0 .1) (at 1 .1) (at 2 .1) (at 3 .1)) refl))
+
+entry-told : (fs : List Field) → Tells EntryRecord (entryShape fs)
+unfolding entryShape recordShape legalEntry
+entry-told fs =
+    cond-cases (λ (r : Record). Tells EntryRecord (recordShape r)) (isOne (numberOf (textAt fs 2))) relocatedEntry absoluteEntry
+    (λ _ vs at. entered (and-intro (at 0) (and-intro (bounded (at 1)) (bounded (at 3)))))
+    (λ _ vs at. entered (and-intro (at 0) (and-intro (bounded (at 1)) refl)))
+
+fields-told : (w : Expected) (fs : List Field) → TellsIn w (shapeFor w fs)
+unfolding shapeFor recordShape
+fields-told AnyHeader fs = header-told _ (row-at (numberOf (firstText fs)))
+fields-told OpeningTitle fs = λ vs at. opening (at 0)
+fields-told ClosingTitle fs = λ vs at. closing (at 0)
+fields-told CodeRecord fs = code-told fs
+fields-told EntryRecord fs = entry-told fs
+fields-told ExternalRecord fs = λ vs at. mentioned (at 0)
+fields-told DataRecord fs = λ vs at. dataRead
+fields-told InitRecord fs = λ vs at. initRead
+fields-told ParameterRecord fs = λ vs at. parameter (bounded (at 2))
+fields-told SubRecord fs = λ vs at. sub
+
+-- ---- the whole line
+
+say-fields : (w : Expected) (end : ℕ) (fs : List Field) (s : Option Shape) → TellsIn w s → CanSay w (sayFields end fs s)
+unfolding sayFields
+say-fields w end [] s h = blank
+say-fields w end (f ∷ fs) none h = bad
+say-fields w end (f ∷ fs) (some s) h = shape-told w s h end (f ∷ fs)
+
 -- a choice between two answers that can be told
 either : (w : Expected) (t : Bool) {a b : LineAnswer} → CanSay w a → CanSay w b → CanSay w (cond t a b)
 either w true p q = p
 either w false p q = q
 
-code-told : (end : ℕ) (fs : List Field) → CanSay CodeRecord (codeLine end fs)
-unfolding codeLine recordShape legalWord legalRelocation
-code-told end fs =
-    cond-cases (λ (r : Record). CanSay CodeRecord (readRecord r end fs)) (starred fs) linkedCode plainCode
-    (λ _. shape-told CodeRecord (recordShape linkedCode) (λ vs at. coded (and-intro (word-bound (at 1 .1) (at 2 .1) (at 3 .1) (at 4 .1)) (relocation-legal (nth vs 6) (nth vs 7) (at 6) (bounded (at 7))))) end fs)
-    (λ _. shape-told CodeRecord (recordShape plainCode) (λ vs at. coded (and-intro (word-bound (at 0 .1) (at 1 .1) (at 2 .1) (at 3 .1)) refl)) end fs)
-
-entry-told : (end : ℕ) (fs : List Field) → CanSay EntryRecord (entryLine end fs)
-unfolding entryLine recordShape legalEntry
-entry-told end fs =
-    cond-cases (λ (r : Record). CanSay EntryRecord (readRecord r end fs)) (isOne (numberOf (textAt fs 2))) relocatedEntry absoluteEntry
-    (λ _. shape-told EntryRecord (recordShape relocatedEntry) (λ vs at. entered (and-intro (at 0) (and-intro (bounded (at 1)) (bounded (at 3))))) end fs)
-    (λ _. shape-told EntryRecord (recordShape absoluteEntry) (λ vs at. entered (and-intro (at 0) (and-intro (bounded (at 1)) refl))) end fs)
-
-fields-told : (w : Expected) (end : ℕ) (fs : List Field) → CanSay w (fieldsSay w end fs)
-unfolding fieldsSay headerLine recordShape
-fields-told AnyHeader end fs = say-header end fs _ (row-at (numberOf (firstText fs)))
-fields-told OpeningTitle end fs = shape-told OpeningTitle _ (λ vs at. opening (at 0)) end fs
-fields-told ClosingTitle end fs = shape-told ClosingTitle _ (λ vs at. closing (at 0)) end fs
-fields-told CodeRecord end fs = code-told end fs
-fields-told EntryRecord end fs = entry-told end fs
-fields-told ExternalRecord end fs = shape-told ExternalRecord _ (λ vs at. mentioned (at 0)) end fs
-fields-told DataRecord end fs = shape-told DataRecord _ (λ vs at. dataRead) end fs
-fields-told InitRecord end fs = shape-told InitRecord _ (λ vs at. initRead) end fs
-fields-told ParameterRecord end fs = shape-told ParameterRecord _ (λ vs at. parameter (bounded (at 2))) end fs
-fields-told SubRecord end fs = shape-told SubRecord _ (λ vs at. sub) end fs
-
--- ---- the whole line
-
-line-of : (w : Expected) (end : ℕ) (fs : List Field) → CanSay w (lineOf w end fs)
-unfolding lineOf
-line-of w end [] = blank
-line-of w end (f ∷ fs) = fields-told w end (f ∷ fs)
-
 tested : (w : Expected) (front size : ℕ) (a : LineAnswer) → CanSay w a → CanSay w (testBytes front size a)
 unfolding testBytes
-tested w front size a t = either w (leb size front) t (either w (faultWithin front a) t bad)
+tested w front size a t = either w (leb size front) t (either w (within front (faultIn a)) t bad)
 
 -- for every line, and whatever is expected of it
 pub line-can-say : (w : Expected) (line : List ℕ) → CanSay w (lineAnswer w line)
-unfolding lineAnswer
-line-can-say w line = tested w _ _ _ (line-of w (length line + 1) (fieldsOf line))
+unfolding lineAnswer lineOf
+line-can-say w line =
+    let fs = fieldsOf line in
+    tested w _ _ _ (say-fields w (length line + 1) fs (shapeFor w fs) (fields-told w fs))
 
 -- the same as tests
 pub told-tests : {w : Expected} {a : LineAnswer} → CanSay w a → (fitsExpected w a && legalAnswer a) ≡ true

@@ -20,7 +20,7 @@ use Rattle.rules.specs.declared.reading.Reading.the-variants.{Complete, 
 use Rattle.rules.proofs.TestLaws.{cond-keeps, between-wider}
 use Rattle.rules.proofs.BoolLaws.{cond-cases}
 use Rattle.rules.proofs.SearchLaws.{search-keeps}
-use Rattle.rules.proofs.AnswerLaws.{readingNumber, reading-number, placingNumber, placing-number}
+use Rattle.rules.proofs.AnswerLaws.{rightColumn, right-wider, readingNumber, reading-number, placingNumber, placing-number}
 
 -- ---- the walk's number is 0 or 9 to 14
 
@@ -59,14 +59,14 @@ items-number (i ∷ is) p h = items-number is (walkItem p i) (item-number p i h)
 -- ---- how a load ends
 
 pub data Ending (s : State) (o : Outcome LoadAnswer) : Type 0 where
-  done : o .answer .number ≡ 0 → Ending s o
-  ahead : between 1 5 (o .answer .number) ≡ true → o .answer .line ≡ 0 → o .answer .rounds ≡ 0 → o .left ≡ asBefore → Ending s o
-  forFile : between 6 14 (o .answer .number) ≡ true → o .answer .rounds ≡ 0 → o .left ≡ now (marked broken s) → Ending s o
+  done : o .answer .number ≡ 0 → o .answer .column ≡ 0 → Ending s o
+  ahead : between 1 5 (o .answer .number) ≡ true → o .answer .line ≡ 0 → o .answer .column ≡ 0 → o .answer .rounds ≡ 0 → o .left ≡ asBefore → Ending s o
+  forFile : rightColumn 14 (o .answer .number) (o .answer .column) ≡ true → o .answer .rounds ≡ 0 → o .left ≡ now (marked broken s) → Ending s o
 
 -- a number that is 0 or 9 to 14, and not 0
-refused-number : (k : ℕ) → placingNumber k ≡ true → eqb k 0 ≡ false → between 6 14 k ≡ true
-unfolding placingNumber
-refused-number k h e = between-wider 9 14 6 14 k (omega arith) (omega arith) (rw e at h)
+refused-number : (k : ℕ) → placingNumber k ≡ true → eqb k 0 ≡ false → rightColumn 14 k 0 ≡ true
+unfolding placingNumber rightColumn
+refused-number k h e = between-wider 9 14 7 14 k (omega arith) (omega arith) (rw e at h)
 
 walked-ends : (s : State) (p : Progress) → walkNumber (p .walk) ≡ true → Ending s (loadOutcome (walked s p))
 unfolding walked walkNumber
@@ -74,15 +74,15 @@ walked-ends s p h =
     cond-cases
     (λ l. Ending s (loadOutcome l))
     (accepted (p .walk))
-    (loaded (refusal 0 0) (p .rounds) (p .walk .state))
-    (loaded (p .walk .refusal) 0 (marked broken s))
-    (λ e. done refl)
+    (loaded (refusal 0 0) 0 (p .rounds) (p .walk .state))
+    (loaded (p .walk .refusal) 0 0 (marked broken s))
+    (λ e. done refl refl)
     (λ e. forFile (refused-number (p .walk .refusal .number) h e) refl refl)
 
 read-ends : (s : State) (file : List ℕ) (r : Reading) → readingNumber r ≡ true → Ending s (loadOutcome (loadRead s file r))
 unfolding loadRead readingNumber walkNumber placingNumber
 read-ends s file Complete h = walked-ends s (walkFrom s (itemsOf file)) (items-number (itemsOf file) (progress (walking s) 0) refl)
-read-ends s file (Stopped k n c) h = forFile (between-wider 6 8 6 14 k (omega arith) (omega arith) h) refl refl
+read-ends s file (Stopped k n c) h = forFile (right-wider k c h) refl refl
 
 shut-number : (k : Mark) → not (eqb (shutBy k) 0) ≡ true → between 1 5 (shutBy k) ≡ true
 unfolding shutBy
@@ -99,19 +99,19 @@ state-ends s file =
     (not (eqb (shutBy (s .mark)) 0))
     (loadStopped (shutBy (s .mark)))
     (cond (ltb 65536 (length file)) (loadStopped 5) read)
-    (λ e. ahead (shut-number (s .mark) e) refl refl refl)
+    (λ e. ahead (shut-number (s .mark) e) refl refl refl refl)
     (λ e.
     cond-cases
     (Ending s)
     (ltb 65536 (length file))
     (loadStopped 5)
     read
-    (λ f. ahead refl refl refl refl)
+    (λ f. ahead refl refl refl refl refl)
     (λ f. read-ends s file (readingOf file) (reading-number file)))
 
 -- "A refused call leaves image, symbols, marks and next address as they were, except that a load refused for what is in its file
 -- sets the broken mark"
 pub load-ends : (s : State) (work-fits : Bool) (file : List ℕ) → Ending s (load (holding s) work-fits file)
 unfolding load loadLent
-load-ends s false file = ahead refl refl refl refl
+load-ends s false file = ahead refl refl refl refl refl
 load-ends s true file = state-ends s file

@@ -2,16 +2,16 @@
 -- "FORCE tests 15 before 14", "An END tests 16 last". And the marks: "the broken mark, which only a reset clears".
 use Prim.Native.Nat.{ℕ, _≤_, _<_}
 use native.Mathlib.Omega.{arith}
-use mathlib.Core.Bool.{Bool, true, false, cond, not}
+use mathlib.Core.Bool.{Bool, true, false, cond, not, _||_, or-true}
 use mathlib.Core.List.{List, [], _∷_}
 use mathlib.Core.Logic.{_≢_}
 use mathlib.Core.Path.{_≡_, refl, sym, ap, _∙_}
 use lib.ListN.{length}
 use lib.Dec.{eqb, leb, ltb}
-use borrow.Author.Tests.{lt-ltb, le-ltb, le-leb, lt-leb}
+use borrow.Author.Tests.{lt-ltb, le-ltb, le-leb, lt-leb, ne-eqb}
 use Rattle.rules.specs.Limits.{longestFile, mostSymbols, largestBase}
-use Rattle.rules.specs.Text.{isName, packName}
-use Rattle.rules.specs.Answers.{DONE, BUFFER, DAMAGED, RESET, FROZEN, TOO-LONG, RANGE, TABLE, NAME, OUT}
+use Rattle.rules.specs.Text.{isName, packName, between}
+use Rattle.rules.specs.Answers.{DONE, BUFFER, DAMAGED, RESET, FROZEN, TOO-LONG, RANGE, TABLE, NAME, OUT, isLineFault, isFileFault}
 use Rattle.rules.specs.State.{Symbol, State, state, Mark, unmarked, broken, frozen, isSymbol, undefinedOnly}
 use Rattle.rules.specs.Placing.{mention}
 use Rattle.rules.specs.Load.{loadFile}
@@ -21,8 +21,9 @@ use Rattle.rules.specs.declared.answer.UndefinedAnswer.{UndefinedAnswer}
 use Rattle.rules.specs.Calls.{Lent, asBefore, Outcome, outcome, EndOutcome, wrongLength, damaged, holding, shutBy, loadStopped, loadOutcome, loadState, loadLent, load, stopped, done, withSymbols, forceState, force, baseState, base, reset, memory, symbolAt, symbols, undefinedAt, undefined, endStopped, endDone, isBroken, endState, end}
 use Rattle.rules.specs.History.{Call, loading, forcing, basing, resetting, askingHigh, listing, listingUndefined, ending, replyTo, numberIn, canAnswer, workFits, leftBy, stateAfter, called, calledAll}
 use Rattle.rules.proofs.TestLaws.{Every}
-use Rattle.rules.proofs.TestLaws.{between-high}
+use Rattle.rules.proofs.TestLaws.{between-low, between-high}
 use Rattle.rules.proofs.BoolLaws.{cond-cases}
+use Rattle.rules.proofs.AnswerLaws.{rightColumn, right-fault}
 use Rattle.rules.proofs.LoadLaws.{Ending, done as accepted, ahead, forFile, state-ends}
 use Rattle.rules.proofs.CallLaws.{force-cases, base-cases, end-cases}
 
@@ -198,20 +199,45 @@ broken-until-reset s e = until-reset s (broken-stays s e)
 pub frozen-until-reset : (s : State) → s .mark ≡ frozen → (cs : List Call) → Every (λ c. c ≢ resetting) cs → calledAll s cs ≡ s
 frozen-until-reset s e = until-reset s (frozen-stays s e)
 
+-- ---- "7 and 8 come after all, at column 0", and no other answer but a line's fault names a column
+
+right-zero : (k c : ℕ) → rightColumn 14 k c ≡ true → eqb c 0 ≡ not (isLineFault k)
+unfolding rightColumn
+right-zero k c h = go (eqb c 0) h
+  where
+    go : (t : Bool) → cond t (between 7 14 k) (isLineFault k) ≡ true → t ≡ not (isLineFault k)
+    go true r = rw (ne-eqb k 6 (λ e. omega (arith, between-low 7 14 k r)), lt-leb 17 k (omega (arith, between-high 7 14 k r)))
+    go false r = rw r
+
+pub columns-named : (m : Lent) (fits : Bool) (file : List ℕ) → let a = load m fits file .answer in
+    eqb (a .column) 0 ≡ not (isLineFault (a .number))
+unfolding load loadLent
+columns-named m false file = refl
+columns-named wrongLength true file = refl
+columns-named damaged true file = refl
+columns-named (holding s) true file = go (state-ends s file)
+  where
+    go : Ending s (loadState s file) → let a = loadState s file .answer in eqb (a .column) 0 ≡ not (isLineFault (a .number))
+    go (accepted e c) = rw (e, c)
+    go (ahead k _ c _ _) =
+        let n = loadState s file .answer .number in
+        rw (c, ne-eqb n 6 (λ e. omega (arith, between-high 1 5 n k)), lt-leb 17 n (omega (arith, between-high 1 5 n k)))
+    go (forFile k _ _) = right-zero _ _ k
+
 -- ---- "each call ends with an answer from the list in document 01": whatever is lent, and in each call no number but its own
 
 -- where LOAD's work memory has its length or not
-load-answers : (m : Lent) (fits : Bool) (file : List ℕ) → leb (load m fits file .answer .number) TABLE ≡ true
+load-answers : (m : Lent) (fits : Bool) (file : List ℕ) → (let k = load m fits file .answer .number in leb k TOO-LONG || isFileFault k) ≡ true
 unfolding load loadLent
 load-answers m false file = refl
 load-answers wrongLength true file = refl
 load-answers damaged true file = refl
 load-answers (holding s) true file = go (state-ends s file)
   where
-    go : Ending s (loadState s file) → leb (loadState s file .answer .number) TABLE ≡ true
-    go (accepted e) = rw e
-    go (ahead k _ _ _) = let n = loadState s file .answer .number in le-leb n 14 (omega (arith, between-high 1 5 n k))
-    go (forFile k _ _) = let n = loadState s file .answer .number in le-leb n 14 (between-high 6 14 n k)
+    go : Ending s (loadState s file) → (leb (loadState s file .answer .number) TOO-LONG || isFileFault (loadState s file .answer .number)) ≡ true
+    go (accepted e _) = rw e
+    go (ahead k _ _ _ _) = let n = loadState s file .answer .number in rw (le-leb n 5 (between-high 1 5 n k))
+    go (forFile k _ _) = let n = loadState s file .answer .number in rw (right-fault n _ k) (or-true (leb n 5))
 
 symbol-done : (t : List Symbol) (i : ℕ) → leb (symbolAt t i .number) DAMAGED ≡ true
 unfolding symbolAt

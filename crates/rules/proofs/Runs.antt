@@ -10,6 +10,7 @@ use lib.ListN.{length, getD, replicate}
 use lib.Dec.{eqb, leb, ltb}
 use Rattle.rules.specs.Text as Text
 use Rattle.rules.specs.Line as Line
+use Rattle.rules.specs.Faults as Faults
 use Rattle.rules.specs.Reading as Reading
 use Rattle.rules.specs.State as State
 use Rattle.rules.specs.Placing as Placing
@@ -110,8 +111,11 @@ after s (now t) = t
 then : State.State → List ℕ → State.State
 then s file = after s (loadIn s file .left)
 
-answers : Outcome LoadAnswer → ℕ → ℕ → ℕ → Bool
-answers o k n r = eqb (o .answer .number) k && (eqb (o .answer .line) n && eqb (o .answer .rounds) r)
+-- what it answers: number, line, column and rounds
+answers : Outcome LoadAnswer → ℕ → ℕ → ℕ → ℕ → Bool
+answers o k n c r =
+    eqb (o .answer .number) k
+    && (eqb (o .answer .line) n && (eqb (o .answer .column) c && eqb (o .answer .rounds) r))
 
 baseAt : ℕ → State.State → State.State
 baseAt n s = after s (base (holding s) n .left)
@@ -182,7 +186,7 @@ taken =
 
 pub p1 : Bool
 p1 =
-    answers (loadIn fresh (main ++ library)) 0 0 3
+    answers (loadIn fresh (main ++ library)) 0 0 0 3
     && (taken
     && (sameText (allWords (linked .words)) (allWords wordsLinked)
     && (eqb (linked .next) 5 && not (State.isSymbol (named "CUBE") (linked .symbols)))))
@@ -207,32 +211,33 @@ p3 =
 pub p4 : Bool
 p4 =
     let s = then fresh main in
-    answers (loadIn fresh main) 0 0 0
+    answers (loadIn fresh main) 0 0 0 0
     && (eqb (length (undefinedOnly (s .symbols))) 1
     && sameText (Image.imageOf s) (hex "57 0000 0001 0002 0003 0004 57 0001 0000 0000 0000 FFFF 45 0001 0001"))
 
 pub p5 : Bool
-p5 = answers (loadIn linked []) 0 0 0 && sameState (then linked []) linked
+p5 = answers (loadIn linked []) 0 0 0 0 && sameState (then linked []) linked
 
 isNumber : Option ℕ → ℕ → Bool
 isNumber none n = false
 isNumber (some m) n = eqb m n
 
+-- 02, 3/14: "P6 and P10 read 18"; the first quarter stands at column 1 of line 4
 pub p6 : Bool
 p6 =
     isNumber (numberOf (bytes "177777")) 65535
-    && (answers (loadIn fresh (oneWord "177777")) 0 0 0
-    && (answers (loadIn fresh (oneWord "200000")) 6 4 0 && answers (loadIn fresh (oneWord "8")) 6 4 0))
+    && (answers (loadIn fresh (oneWord "177777")) 0 0 0 0
+    && (answers (loadIn fresh (oneWord "200000")) 18 4 1 0 && answers (loadIn fresh (oneWord "8")) 18 4 1 0))
 
 -- BASE 4,095: one word fits and stands there, two are 9; at next address 4,096 a module without code loads
 pub p7 : Bool
 p7 =
     let s = baseAt 4095 fresh in
     let t = then s (oneWord "1") in
-    answers (loadIn s (oneWord "1")) 0 0 0
+    answers (loadIn s (oneWord "1")) 0 0 0 0
     && (sameText (allWords (t .words)) (allWords (replicate 4095 unplaced ++ (plain 0x0001_0000_0000_0000 ∷ [])))
-    && (answers (loadIn s (coded "0 2 0 ***CODE\n0 0 0 0\n0 0 0 0\n")) 9 1 0
-    && (eqb (t .next) 4096 && answers (loadIn t (coded "")) 0 0 0)))
+    && (answers (loadIn s (coded "0 2 0 ***CODE\n0 0 0 0\n0 0 0 0\n")) 9 1 0 0
+    && (eqb (t .next) 4096 && answers (loadIn t (coded "")) 0 0 0 0)))
 
 -- BASE 0 after P1, then MAIN's words under another title and entry: 10, then any LOAD, whatever its file is, 3; nothing but the mark
 -- has changed
@@ -240,18 +245,18 @@ pub p8 : List ℕ → Bool
 p8 file =
     let s = baseAt 0 linked in
     let t = then s again in
-    answers (loadIn s again) 10 1 0
-    && (sameState t (State.marked broken s) && (answers (loadIn t file) 3 0 0 && sameState (then t file) t))
+    answers (loadIn s again) 10 1 0 0
+    && (sameState t (State.marked broken s) && (answers (loadIn t file) 3 0 0 0 && sameState (then t file) t))
 
 -- LOW twice in one library: 13, though nobody needs it
 pub p9 : Bool
-p9 = answers (loadIn fresh (bytes "6 ***LSB\n" ++ low ++ low ++ bytes "7 ***LEB\n")) 13 1 0
+p9 = answers (loadIn fresh (bytes "6 ***LSB\n" ++ low ++ low ++ bytes "7 ***LEB\n")) 13 1 0 0
 
--- an FPB record of size 3 with two sub-records: the next header is read as the third
+-- an FPB record of size 3 with two sub-records: the next header, at line 7, is read as the third, whose second number is the marker
 pub p10 : Bool
 p10 =
-    answers (loadIn fresh (coded "12 1 ***FPB\n0 0 3\n0 0\n0 0\n")) 6 7 0
-    && answers (loadIn fresh (coded "12 1 ***FPB\n0 0 2\n0 0\n0 0\n")) 0 0 0
+    answers (loadIn fresh (coded "12 1 ***FPB\n0 0 3\n0 0\n0 0\n")) 18 7 3 0
+    && answers (loadIn fresh (coded "12 1 ***FPB\n0 0 2\n0 0\n0 0\n")) 0 0 0 0
 
 -- the table, with P8's row to be filled in
 rows : Bool → Bool
@@ -259,11 +264,11 @@ rows eighth = p1 && (p2 && (p3 && (p4 && (p5 && (p6 && (p7 && (eighth && (p9 && 
 
 -- P8's row, whatever the file is; the others have no variable, and compute faster by themselves
 row-8 : (file : List ℕ) → p8 file ≡ true
-unfolding members three sameFlags roundGives taken main low sq cube library digit spaceless pairs hex tableNumbers named wordNumbers allWords markNumber sameState loadIn after then answers baseAt linked coded oneWord again wordsLinked isNumber p1 p2 p3 p4 p5 p6 p7 p8 p9 p10 Text.bytes Text.all Text.any Text.widenLine Text.cutLines Text.withoutEnd Text.linesOf Text.legalFront Text.startsField Text.widenField Text.addToFields Text.fieldsFrom Text.fieldsOf Text.octal Text.isNumber Text.numberOf Text.isName Text.packName Text.nameOf Text.upToZero Text.unpackName Text.isPacked Line.headers Line.rowIn Line.rowOf Line.markerIn Text.sameText Line.held Line.inBounds Line.readField Line.inFront Line.fit Line.said Line.readAs Line.recordShape Line.codeLine Line.entryLine Line.sayHeader Line.rowAt Line.firstText Line.headerLine Line.isOne Line.textAt Line.fieldsSay Line.lineOf Line.faultWithin Line.testBytes Line.lineAnswer Reading.atStart Reading.expect Reading.expectRecords Reading.recordDone Reading.expectSubs Reading.titleHeader Reading.enterModule Reading.leaveModule Reading.enterSection Reading.leaveSection Reading.countEntry Reading.countExternal Reading.titleStep Reading.libraryStep Reading.libraryEndStep Reading.headerStep Reading.closingStep Reading.entryStep Reading.externalStep Reading.parameterStep Reading.subStep Reading.stepOf Reading.unread Reading.moduleDone Reading.stepped Reading.ifComplete Reading.readLine Reading.readLines Reading.isHeader Reading.atEnd Reading.readingOf Reading.itemsOf State.noWords State.fresh State.isSymbol State.isDefined State.isUndefined State.positionOf State.undefinedOnly State.placedWords State.highestFrom State.highestWhere State.soundSymbol State.differentNames State.soundWord State.sound Placing.entriesIn Placing.externalsIn Placing.codeIn Placing.lengthIn Placing.countIn Placing.valueAt Placing.define Placing.mention Placing.defineAll Placing.mentionAll Placing.joined Placing.linked Placing.putAll Placing.noRoom Placing.overlaps Placing.badArgument Placing.badArguments Placing.outOfRange Placing.twice Placing.duplicates Placing.tableFull Placing.placingFault Placing.placed Search.noModules Search.withModule Search.visit Search.sweep Search.round Search.rounds Search.search Load.tryPlace Load.place Load.entryNames Load.isNeeded Load.takes Load.searched Load.sectionNames Load.testSection Load.walkItem Load.walkItems Load.walked Load.loadRead Load.loadFile Image.valueOf Image.completed Image.two Image.quarters Image.wordRecord Image.recordOf Image.recordsFrom Image.endRecord Image.imageOf Calls.workAfter Calls.shutBy Calls.loadState Calls.loadLent Calls.load Calls.forceState Calls.force Calls.baseState Calls.base Calls.reset Calls.memory Calls.symbolAt Calls.symbols Calls.undefinedAt Calls.undefined Calls.isBroken Calls.endState Calls.end
+unfolding members three sameFlags roundGives taken main low sq cube library digit spaceless pairs hex tableNumbers named wordNumbers allWords markNumber sameState loadIn after then answers baseAt linked coded oneWord again wordsLinked isNumber p1 p2 p3 p4 p5 p6 p7 p8 p9 p10 Text.bytes Text.all Text.any Text.widenLine Text.cutLines Text.withoutEnd Text.linesOf Text.legalFront Text.startsField Text.widenField Text.addToFields Text.fieldsFrom Text.fieldsOf Text.octal Text.isNumber Text.numberOf Text.isName Text.packName Text.nameOf Text.upToZero Text.unpackName Text.isPacked Line.headers Line.rowIn Line.rowOf Line.markerIn Text.sameText Line.held Line.inBounds Line.readField Line.inFront Line.fit Line.said Line.readAs Line.recordShape Line.rowAt Line.firstText Line.headerShapeIn Line.codeShape Line.isOne Line.textAt Line.entryShape Line.shapeFor Line.sayFields Line.lineOf Line.faultIn Line.within Line.testBytes Line.lineAnswer Faults.faultNumber Reading.atStart Reading.expect Reading.expectRecords Reading.recordDone Reading.expectSubs Reading.titleHeader Reading.enterModule Reading.leaveModule Reading.enterSection Reading.leaveSection Reading.countEntry Reading.countExternal Reading.titleStep Reading.libraryStep Reading.libraryEndStep Reading.headerStep Reading.closingStep Reading.entryStep Reading.externalStep Reading.parameterStep Reading.subStep Reading.stepOf Reading.unread Reading.moduleDone Reading.stepped Reading.ifComplete Reading.readLine Reading.readLines Reading.isHeader Reading.atEnd Reading.readingOf Reading.itemsOf State.noWords State.fresh State.isSymbol State.isDefined State.isUndefined State.positionOf State.undefinedOnly State.placedWords State.highestFrom State.highestWhere State.soundSymbol State.differentNames State.soundWord State.sound Placing.entriesIn Placing.externalsIn Placing.codeIn Placing.lengthIn Placing.countIn Placing.valueAt Placing.define Placing.mention Placing.defineAll Placing.mentionAll Placing.joined Placing.linked Placing.putAll Placing.noRoom Placing.overlaps Placing.badArgument Placing.badArguments Placing.outOfRange Placing.twice Placing.duplicates Placing.tableFull Placing.placingFault Placing.placed Search.noModules Search.withModule Search.visit Search.sweep Search.round Search.rounds Search.search Load.tryPlace Load.place Load.entryNames Load.isNeeded Load.takes Load.searched Load.sectionNames Load.testSection Load.walkItem Load.walkItems Load.walked Load.loadRead Load.loadFile Image.valueOf Image.completed Image.two Image.quarters Image.wordRecord Image.recordOf Image.recordsFrom Image.endRecord Image.imageOf Calls.workAfter Calls.shutBy Calls.loadState Calls.loadLent Calls.load Calls.forceState Calls.force Calls.baseState Calls.base Calls.reset Calls.memory Calls.symbolAt Calls.symbols Calls.undefinedAt Calls.undefined Calls.isBroken Calls.endState Calls.end
 row-8 file = refl
 
 other-rows : rows true ≡ true
-unfolding rows members three sameFlags roundGives taken main low sq cube library digit spaceless pairs hex tableNumbers named wordNumbers allWords markNumber sameState loadIn after then answers baseAt linked coded oneWord again wordsLinked isNumber p1 p2 p3 p4 p5 p6 p7 p8 p9 p10 Text.bytes Text.all Text.any Text.widenLine Text.cutLines Text.withoutEnd Text.linesOf Text.legalFront Text.startsField Text.widenField Text.addToFields Text.fieldsFrom Text.fieldsOf Text.octal Text.isNumber Text.numberOf Text.isName Text.packName Text.nameOf Text.upToZero Text.unpackName Text.isPacked Line.headers Line.rowIn Line.rowOf Line.markerIn Text.sameText Line.held Line.inBounds Line.readField Line.inFront Line.fit Line.said Line.readAs Line.recordShape Line.codeLine Line.entryLine Line.sayHeader Line.rowAt Line.firstText Line.headerLine Line.isOne Line.textAt Line.fieldsSay Line.lineOf Line.faultWithin Line.testBytes Line.lineAnswer Reading.atStart Reading.expect Reading.expectRecords Reading.recordDone Reading.expectSubs Reading.titleHeader Reading.enterModule Reading.leaveModule Reading.enterSection Reading.leaveSection Reading.countEntry Reading.countExternal Reading.titleStep Reading.libraryStep Reading.libraryEndStep Reading.headerStep Reading.closingStep Reading.entryStep Reading.externalStep Reading.parameterStep Reading.subStep Reading.stepOf Reading.unread Reading.moduleDone Reading.stepped Reading.ifComplete Reading.readLine Reading.readLines Reading.isHeader Reading.atEnd Reading.readingOf Reading.itemsOf State.noWords State.fresh State.isSymbol State.isDefined State.isUndefined State.positionOf State.undefinedOnly State.placedWords State.highestFrom State.highestWhere State.soundSymbol State.differentNames State.soundWord State.sound Placing.entriesIn Placing.externalsIn Placing.codeIn Placing.lengthIn Placing.countIn Placing.valueAt Placing.define Placing.mention Placing.defineAll Placing.mentionAll Placing.joined Placing.linked Placing.putAll Placing.noRoom Placing.overlaps Placing.badArgument Placing.badArguments Placing.outOfRange Placing.twice Placing.duplicates Placing.tableFull Placing.placingFault Placing.placed Search.noModules Search.withModule Search.visit Search.sweep Search.round Search.rounds Search.search Load.tryPlace Load.place Load.entryNames Load.isNeeded Load.takes Load.searched Load.sectionNames Load.testSection Load.walkItem Load.walkItems Load.walked Load.loadRead Load.loadFile Image.valueOf Image.completed Image.two Image.quarters Image.wordRecord Image.recordOf Image.recordsFrom Image.endRecord Image.imageOf Calls.workAfter Calls.shutBy Calls.loadState Calls.loadLent Calls.load Calls.forceState Calls.force Calls.baseState Calls.base Calls.reset Calls.memory Calls.symbolAt Calls.symbols Calls.undefinedAt Calls.undefined Calls.isBroken Calls.endState Calls.end
+unfolding rows members three sameFlags roundGives taken main low sq cube library digit spaceless pairs hex tableNumbers named wordNumbers allWords markNumber sameState loadIn after then answers baseAt linked coded oneWord again wordsLinked isNumber p1 p2 p3 p4 p5 p6 p7 p8 p9 p10 Text.bytes Text.all Text.any Text.widenLine Text.cutLines Text.withoutEnd Text.linesOf Text.legalFront Text.startsField Text.widenField Text.addToFields Text.fieldsFrom Text.fieldsOf Text.octal Text.isNumber Text.numberOf Text.isName Text.packName Text.nameOf Text.upToZero Text.unpackName Text.isPacked Line.headers Line.rowIn Line.rowOf Line.markerIn Text.sameText Line.held Line.inBounds Line.readField Line.inFront Line.fit Line.said Line.readAs Line.recordShape Line.rowAt Line.firstText Line.headerShapeIn Line.codeShape Line.isOne Line.textAt Line.entryShape Line.shapeFor Line.sayFields Line.lineOf Line.faultIn Line.within Line.testBytes Line.lineAnswer Faults.faultNumber Reading.atStart Reading.expect Reading.expectRecords Reading.recordDone Reading.expectSubs Reading.titleHeader Reading.enterModule Reading.leaveModule Reading.enterSection Reading.leaveSection Reading.countEntry Reading.countExternal Reading.titleStep Reading.libraryStep Reading.libraryEndStep Reading.headerStep Reading.closingStep Reading.entryStep Reading.externalStep Reading.parameterStep Reading.subStep Reading.stepOf Reading.unread Reading.moduleDone Reading.stepped Reading.ifComplete Reading.readLine Reading.readLines Reading.isHeader Reading.atEnd Reading.readingOf Reading.itemsOf State.noWords State.fresh State.isSymbol State.isDefined State.isUndefined State.positionOf State.undefinedOnly State.placedWords State.highestFrom State.highestWhere State.soundSymbol State.differentNames State.soundWord State.sound Placing.entriesIn Placing.externalsIn Placing.codeIn Placing.lengthIn Placing.countIn Placing.valueAt Placing.define Placing.mention Placing.defineAll Placing.mentionAll Placing.joined Placing.linked Placing.putAll Placing.noRoom Placing.overlaps Placing.badArgument Placing.badArguments Placing.outOfRange Placing.twice Placing.duplicates Placing.tableFull Placing.placingFault Placing.placed Search.noModules Search.withModule Search.visit Search.sweep Search.round Search.rounds Search.search Load.tryPlace Load.place Load.entryNames Load.isNeeded Load.takes Load.searched Load.sectionNames Load.testSection Load.walkItem Load.walkItems Load.walked Load.loadRead Load.loadFile Image.valueOf Image.completed Image.two Image.quarters Image.wordRecord Image.recordOf Image.recordsFrom Image.endRecord Image.imageOf Calls.workAfter Calls.shutBy Calls.loadState Calls.loadLent Calls.load Calls.forceState Calls.force Calls.baseState Calls.base Calls.reset Calls.memory Calls.symbolAt Calls.symbols Calls.undefinedAt Calls.undefined Calls.isBroken Calls.endState Calls.end
 other-rows = refl
 
 -- all rows under one claim
@@ -303,7 +308,7 @@ libraryModules =
     ∷ []
 
 holds : itemsOf (main ++ library) ≡ free mainModule ∷ section 12 libraryModules ∷ []
-unfolding mainModule libraryModules members three sameFlags roundGives taken main low sq cube library digit spaceless pairs hex tableNumbers named wordNumbers allWords markNumber sameState loadIn after then answers baseAt linked coded oneWord again wordsLinked isNumber p1 p2 p3 p4 p5 p6 p7 p8 p9 p10 Text.bytes Text.all Text.any Text.widenLine Text.cutLines Text.withoutEnd Text.linesOf Text.legalFront Text.startsField Text.widenField Text.addToFields Text.fieldsFrom Text.fieldsOf Text.octal Text.isNumber Text.numberOf Text.isName Text.packName Text.nameOf Text.upToZero Text.unpackName Text.isPacked Line.headers Line.rowIn Line.rowOf Line.markerIn Text.sameText Line.held Line.inBounds Line.readField Line.inFront Line.fit Line.said Line.readAs Line.recordShape Line.codeLine Line.entryLine Line.sayHeader Line.rowAt Line.firstText Line.headerLine Line.isOne Line.textAt Line.fieldsSay Line.lineOf Line.faultWithin Line.testBytes Line.lineAnswer Reading.atStart Reading.expect Reading.expectRecords Reading.recordDone Reading.expectSubs Reading.titleHeader Reading.enterModule Reading.leaveModule Reading.enterSection Reading.leaveSection Reading.countEntry Reading.countExternal Reading.titleStep Reading.libraryStep Reading.libraryEndStep Reading.headerStep Reading.closingStep Reading.entryStep Reading.externalStep Reading.parameterStep Reading.subStep Reading.stepOf Reading.unread Reading.moduleDone Reading.stepped Reading.ifComplete Reading.readLine Reading.readLines Reading.isHeader Reading.atEnd Reading.readingOf Reading.itemsOf State.noWords State.fresh State.isSymbol State.isDefined State.isUndefined State.positionOf State.undefinedOnly State.placedWords State.highestFrom State.highestWhere State.soundSymbol State.differentNames State.soundWord State.sound Placing.entriesIn Placing.externalsIn Placing.codeIn Placing.lengthIn Placing.countIn Placing.valueAt Placing.define Placing.mention Placing.defineAll Placing.mentionAll Placing.joined Placing.linked Placing.putAll Placing.noRoom Placing.overlaps Placing.badArgument Placing.badArguments Placing.outOfRange Placing.twice Placing.duplicates Placing.tableFull Placing.placingFault Placing.placed Search.noModules Search.withModule Search.visit Search.sweep Search.round Search.rounds Search.search Load.tryPlace Load.place Load.entryNames Load.isNeeded Load.takes Load.searched Load.sectionNames Load.testSection Load.walkItem Load.walkItems Load.walked Load.loadRead Load.loadFile Image.valueOf Image.completed Image.two Image.quarters Image.wordRecord Image.recordOf Image.recordsFrom Image.endRecord Image.imageOf Calls.workAfter Calls.shutBy Calls.loadState Calls.loadLent Calls.load Calls.forceState Calls.force Calls.baseState Calls.base Calls.reset Calls.memory Calls.symbolAt Calls.symbols Calls.undefinedAt Calls.undefined Calls.isBroken Calls.endState Calls.end
+unfolding mainModule libraryModules members three sameFlags roundGives taken main low sq cube library digit spaceless pairs hex tableNumbers named wordNumbers allWords markNumber sameState loadIn after then answers baseAt linked coded oneWord again wordsLinked isNumber p1 p2 p3 p4 p5 p6 p7 p8 p9 p10 Text.bytes Text.all Text.any Text.widenLine Text.cutLines Text.withoutEnd Text.linesOf Text.legalFront Text.startsField Text.widenField Text.addToFields Text.fieldsFrom Text.fieldsOf Text.octal Text.isNumber Text.numberOf Text.isName Text.packName Text.nameOf Text.upToZero Text.unpackName Text.isPacked Line.headers Line.rowIn Line.rowOf Line.markerIn Text.sameText Line.held Line.inBounds Line.readField Line.inFront Line.fit Line.said Line.readAs Line.recordShape Line.rowAt Line.firstText Line.headerShapeIn Line.codeShape Line.isOne Line.textAt Line.entryShape Line.shapeFor Line.sayFields Line.lineOf Line.faultIn Line.within Line.testBytes Line.lineAnswer Faults.faultNumber Reading.atStart Reading.expect Reading.expectRecords Reading.recordDone Reading.expectSubs Reading.titleHeader Reading.enterModule Reading.leaveModule Reading.enterSection Reading.leaveSection Reading.countEntry Reading.countExternal Reading.titleStep Reading.libraryStep Reading.libraryEndStep Reading.headerStep Reading.closingStep Reading.entryStep Reading.externalStep Reading.parameterStep Reading.subStep Reading.stepOf Reading.unread Reading.moduleDone Reading.stepped Reading.ifComplete Reading.readLine Reading.readLines Reading.isHeader Reading.atEnd Reading.readingOf Reading.itemsOf State.noWords State.fresh State.isSymbol State.isDefined State.isUndefined State.positionOf State.undefinedOnly State.placedWords State.highestFrom State.highestWhere State.soundSymbol State.differentNames State.soundWord State.sound Placing.entriesIn Placing.externalsIn Placing.codeIn Placing.lengthIn Placing.countIn Placing.valueAt Placing.define Placing.mention Placing.defineAll Placing.mentionAll Placing.joined Placing.linked Placing.putAll Placing.noRoom Placing.overlaps Placing.badArgument Placing.badArguments Placing.outOfRange Placing.twice Placing.duplicates Placing.tableFull Placing.placingFault Placing.placed Search.noModules Search.withModule Search.visit Search.sweep Search.round Search.rounds Search.search Load.tryPlace Load.place Load.entryNames Load.isNeeded Load.takes Load.searched Load.sectionNames Load.testSection Load.walkItem Load.walkItems Load.walked Load.loadRead Load.loadFile Image.valueOf Image.completed Image.two Image.quarters Image.wordRecord Image.recordOf Image.recordsFrom Image.endRecord Image.imageOf Calls.workAfter Calls.shutBy Calls.loadState Calls.loadLent Calls.load Calls.forceState Calls.force Calls.baseState Calls.base Calls.reset Calls.memory Calls.symbolAt Calls.symbols Calls.undefinedAt Calls.undefined Calls.isBroken Calls.endState Calls.end
 holds = refl
 
 -- the walk at the library, its table, and what the search takes there
@@ -318,7 +323,7 @@ takenThere = searched libraryModules atLibrary .taken
 
 -- "taking none breaks sufficiency": SQ stays undefined
 pub none-insufficient : ¬ Sufficient tableThere libraryModules noModules
-unfolding mainModule libraryModules atLibrary tableThere Sufficient allModules isEntry isExternal someFrom members three sameFlags roundGives taken main low sq cube library digit spaceless pairs hex tableNumbers named wordNumbers allWords markNumber sameState loadIn after then answers baseAt linked coded oneWord again wordsLinked isNumber p1 p2 p3 p4 p5 p6 p7 p8 p9 p10 Text.bytes Text.all Text.any Text.widenLine Text.cutLines Text.withoutEnd Text.linesOf Text.legalFront Text.startsField Text.widenField Text.addToFields Text.fieldsFrom Text.fieldsOf Text.octal Text.isNumber Text.numberOf Text.isName Text.packName Text.nameOf Text.upToZero Text.unpackName Text.isPacked Line.headers Line.rowIn Line.rowOf Line.markerIn Text.sameText Line.held Line.inBounds Line.readField Line.inFront Line.fit Line.said Line.readAs Line.recordShape Line.codeLine Line.entryLine Line.sayHeader Line.rowAt Line.firstText Line.headerLine Line.isOne Line.textAt Line.fieldsSay Line.lineOf Line.faultWithin Line.testBytes Line.lineAnswer Reading.atStart Reading.expect Reading.expectRecords Reading.recordDone Reading.expectSubs Reading.titleHeader Reading.enterModule Reading.leaveModule Reading.enterSection Reading.leaveSection Reading.countEntry Reading.countExternal Reading.titleStep Reading.libraryStep Reading.libraryEndStep Reading.headerStep Reading.closingStep Reading.entryStep Reading.externalStep Reading.parameterStep Reading.subStep Reading.stepOf Reading.unread Reading.moduleDone Reading.stepped Reading.ifComplete Reading.readLine Reading.readLines Reading.isHeader Reading.atEnd Reading.readingOf Reading.itemsOf State.noWords State.fresh State.isSymbol State.isDefined State.isUndefined State.positionOf State.undefinedOnly State.placedWords State.highestFrom State.highestWhere State.soundSymbol State.differentNames State.soundWord State.sound Placing.entriesIn Placing.externalsIn Placing.codeIn Placing.lengthIn Placing.countIn Placing.valueAt Placing.define Placing.mention Placing.defineAll Placing.mentionAll Placing.joined Placing.linked Placing.putAll Placing.noRoom Placing.overlaps Placing.badArgument Placing.badArguments Placing.outOfRange Placing.twice Placing.duplicates Placing.tableFull Placing.placingFault Placing.placed Search.noModules Search.withModule Search.visit Search.sweep Search.round Search.rounds Search.search Load.tryPlace Load.place Load.entryNames Load.isNeeded Load.takes Load.searched Load.sectionNames Load.testSection Load.walkItem Load.walkItems Load.walked Load.loadRead Load.loadFile Image.valueOf Image.completed Image.two Image.quarters Image.wordRecord Image.recordOf Image.recordsFrom Image.endRecord Image.imageOf Calls.workAfter Calls.shutBy Calls.loadState Calls.loadLent Calls.load Calls.forceState Calls.force Calls.baseState Calls.base Calls.reset Calls.memory Calls.symbolAt Calls.symbols Calls.undefinedAt Calls.undefined Calls.isBroken Calls.endState Calls.end
+unfolding mainModule libraryModules atLibrary tableThere Sufficient allModules isEntry isExternal someFrom members three sameFlags roundGives taken main low sq cube library digit spaceless pairs hex tableNumbers named wordNumbers allWords markNumber sameState loadIn after then answers baseAt linked coded oneWord again wordsLinked isNumber p1 p2 p3 p4 p5 p6 p7 p8 p9 p10 Text.bytes Text.all Text.any Text.widenLine Text.cutLines Text.withoutEnd Text.linesOf Text.legalFront Text.startsField Text.widenField Text.addToFields Text.fieldsFrom Text.fieldsOf Text.octal Text.isNumber Text.numberOf Text.isName Text.packName Text.nameOf Text.upToZero Text.unpackName Text.isPacked Line.headers Line.rowIn Line.rowOf Line.markerIn Text.sameText Line.held Line.inBounds Line.readField Line.inFront Line.fit Line.said Line.readAs Line.recordShape Line.rowAt Line.firstText Line.headerShapeIn Line.codeShape Line.isOne Line.textAt Line.entryShape Line.shapeFor Line.sayFields Line.lineOf Line.faultIn Line.within Line.testBytes Line.lineAnswer Faults.faultNumber Reading.atStart Reading.expect Reading.expectRecords Reading.recordDone Reading.expectSubs Reading.titleHeader Reading.enterModule Reading.leaveModule Reading.enterSection Reading.leaveSection Reading.countEntry Reading.countExternal Reading.titleStep Reading.libraryStep Reading.libraryEndStep Reading.headerStep Reading.closingStep Reading.entryStep Reading.externalStep Reading.parameterStep Reading.subStep Reading.stepOf Reading.unread Reading.moduleDone Reading.stepped Reading.ifComplete Reading.readLine Reading.readLines Reading.isHeader Reading.atEnd Reading.readingOf Reading.itemsOf State.noWords State.fresh State.isSymbol State.isDefined State.isUndefined State.positionOf State.undefinedOnly State.placedWords State.highestFrom State.highestWhere State.soundSymbol State.differentNames State.soundWord State.sound Placing.entriesIn Placing.externalsIn Placing.codeIn Placing.lengthIn Placing.countIn Placing.valueAt Placing.define Placing.mention Placing.defineAll Placing.mentionAll Placing.joined Placing.linked Placing.putAll Placing.noRoom Placing.overlaps Placing.badArgument Placing.badArguments Placing.outOfRange Placing.twice Placing.duplicates Placing.tableFull Placing.placingFault Placing.placed Search.noModules Search.withModule Search.visit Search.sweep Search.round Search.rounds Search.search Load.tryPlace Load.place Load.entryNames Load.isNeeded Load.takes Load.searched Load.sectionNames Load.testSection Load.walkItem Load.walkItems Load.walked Load.loadRead Load.loadFile Image.valueOf Image.completed Image.two Image.quarters Image.wordRecord Image.recordOf Image.recordsFrom Image.endRecord Image.imageOf Calls.workAfter Calls.shutBy Calls.loadState Calls.loadLent Calls.load Calls.forceState Calls.force Calls.baseState Calls.base Calls.reset Calls.memory Calls.symbolAt Calls.symbols Calls.undefinedAt Calls.undefined Calls.isBroken Calls.endState Calls.end
 none-insufficient enough = false≢true (enough (named "SQ") refl)
 
 -- "One that searches in round one and idles later": it takes SQ, and LOW stays undefined
@@ -326,12 +331,12 @@ pub onlySQ : ModuleSet
 onlySQ i = eqb i 1
 
 pub one-round-insufficient : ¬ Sufficient tableThere libraryModules onlySQ
-unfolding onlySQ mainModule libraryModules atLibrary tableThere Sufficient allModules isEntry isExternal someFrom members three sameFlags roundGives taken main low sq cube library digit spaceless pairs hex tableNumbers named wordNumbers allWords markNumber sameState loadIn after then answers baseAt linked coded oneWord again wordsLinked isNumber p1 p2 p3 p4 p5 p6 p7 p8 p9 p10 Text.bytes Text.all Text.any Text.widenLine Text.cutLines Text.withoutEnd Text.linesOf Text.legalFront Text.startsField Text.widenField Text.addToFields Text.fieldsFrom Text.fieldsOf Text.octal Text.isNumber Text.numberOf Text.isName Text.packName Text.nameOf Text.upToZero Text.unpackName Text.isPacked Line.headers Line.rowIn Line.rowOf Line.markerIn Text.sameText Line.held Line.inBounds Line.readField Line.inFront Line.fit Line.said Line.readAs Line.recordShape Line.codeLine Line.entryLine Line.sayHeader Line.rowAt Line.firstText Line.headerLine Line.isOne Line.textAt Line.fieldsSay Line.lineOf Line.faultWithin Line.testBytes Line.lineAnswer Reading.atStart Reading.expect Reading.expectRecords Reading.recordDone Reading.expectSubs Reading.titleHeader Reading.enterModule Reading.leaveModule Reading.enterSection Reading.leaveSection Reading.countEntry Reading.countExternal Reading.titleStep Reading.libraryStep Reading.libraryEndStep Reading.headerStep Reading.closingStep Reading.entryStep Reading.externalStep Reading.parameterStep Reading.subStep Reading.stepOf Reading.unread Reading.moduleDone Reading.stepped Reading.ifComplete Reading.readLine Reading.readLines Reading.isHeader Reading.atEnd Reading.readingOf Reading.itemsOf State.noWords State.fresh State.isSymbol State.isDefined State.isUndefined State.positionOf State.undefinedOnly State.placedWords State.highestFrom State.highestWhere State.soundSymbol State.differentNames State.soundWord State.sound Placing.entriesIn Placing.externalsIn Placing.codeIn Placing.lengthIn Placing.countIn Placing.valueAt Placing.define Placing.mention Placing.defineAll Placing.mentionAll Placing.joined Placing.linked Placing.putAll Placing.noRoom Placing.overlaps Placing.badArgument Placing.badArguments Placing.outOfRange Placing.twice Placing.duplicates Placing.tableFull Placing.placingFault Placing.placed Search.noModules Search.withModule Search.visit Search.sweep Search.round Search.rounds Search.search Load.tryPlace Load.place Load.entryNames Load.isNeeded Load.takes Load.searched Load.sectionNames Load.testSection Load.walkItem Load.walkItems Load.walked Load.loadRead Load.loadFile Image.valueOf Image.completed Image.two Image.quarters Image.wordRecord Image.recordOf Image.recordsFrom Image.endRecord Image.imageOf Calls.workAfter Calls.shutBy Calls.loadState Calls.loadLent Calls.load Calls.forceState Calls.force Calls.baseState Calls.base Calls.reset Calls.memory Calls.symbolAt Calls.symbols Calls.undefinedAt Calls.undefined Calls.isBroken Calls.endState Calls.end
+unfolding onlySQ mainModule libraryModules atLibrary tableThere Sufficient allModules isEntry isExternal someFrom members three sameFlags roundGives taken main low sq cube library digit spaceless pairs hex tableNumbers named wordNumbers allWords markNumber sameState loadIn after then answers baseAt linked coded oneWord again wordsLinked isNumber p1 p2 p3 p4 p5 p6 p7 p8 p9 p10 Text.bytes Text.all Text.any Text.widenLine Text.cutLines Text.withoutEnd Text.linesOf Text.legalFront Text.startsField Text.widenField Text.addToFields Text.fieldsFrom Text.fieldsOf Text.octal Text.isNumber Text.numberOf Text.isName Text.packName Text.nameOf Text.upToZero Text.unpackName Text.isPacked Line.headers Line.rowIn Line.rowOf Line.markerIn Text.sameText Line.held Line.inBounds Line.readField Line.inFront Line.fit Line.said Line.readAs Line.recordShape Line.rowAt Line.firstText Line.headerShapeIn Line.codeShape Line.isOne Line.textAt Line.entryShape Line.shapeFor Line.sayFields Line.lineOf Line.faultIn Line.within Line.testBytes Line.lineAnswer Faults.faultNumber Reading.atStart Reading.expect Reading.expectRecords Reading.recordDone Reading.expectSubs Reading.titleHeader Reading.enterModule Reading.leaveModule Reading.enterSection Reading.leaveSection Reading.countEntry Reading.countExternal Reading.titleStep Reading.libraryStep Reading.libraryEndStep Reading.headerStep Reading.closingStep Reading.entryStep Reading.externalStep Reading.parameterStep Reading.subStep Reading.stepOf Reading.unread Reading.moduleDone Reading.stepped Reading.ifComplete Reading.readLine Reading.readLines Reading.isHeader Reading.atEnd Reading.readingOf Reading.itemsOf State.noWords State.fresh State.isSymbol State.isDefined State.isUndefined State.positionOf State.undefinedOnly State.placedWords State.highestFrom State.highestWhere State.soundSymbol State.differentNames State.soundWord State.sound Placing.entriesIn Placing.externalsIn Placing.codeIn Placing.lengthIn Placing.countIn Placing.valueAt Placing.define Placing.mention Placing.defineAll Placing.mentionAll Placing.joined Placing.linked Placing.putAll Placing.noRoom Placing.overlaps Placing.badArgument Placing.badArguments Placing.outOfRange Placing.twice Placing.duplicates Placing.tableFull Placing.placingFault Placing.placed Search.noModules Search.withModule Search.visit Search.sweep Search.round Search.rounds Search.search Load.tryPlace Load.place Load.entryNames Load.isNeeded Load.takes Load.searched Load.sectionNames Load.testSection Load.walkItem Load.walkItems Load.walked Load.loadRead Load.loadFile Image.valueOf Image.completed Image.two Image.quarters Image.wordRecord Image.recordOf Image.recordsFrom Image.endRecord Image.imageOf Calls.workAfter Calls.shutBy Calls.loadState Calls.loadLent Calls.load Calls.forceState Calls.force Calls.baseState Calls.base Calls.reset Calls.memory Calls.symbolAt Calls.symbols Calls.undefinedAt Calls.undefined Calls.isBroken Calls.endState Calls.end
 one-round-insufficient enough = false≢true (enough (named "LOW") refl)
 
 -- "taking all breaks containment": what the search takes is sufficient, and CUBE is not among it
 accepted-there : load (holding fresh) true (main ++ library) .answer .number ≡ 0
-unfolding members three sameFlags roundGives taken main low sq cube library digit spaceless pairs hex tableNumbers named wordNumbers allWords markNumber sameState loadIn after then answers baseAt linked coded oneWord again wordsLinked isNumber p1 p2 p3 p4 p5 p6 p7 p8 p9 p10 Text.bytes Text.all Text.any Text.widenLine Text.cutLines Text.withoutEnd Text.linesOf Text.legalFront Text.startsField Text.widenField Text.addToFields Text.fieldsFrom Text.fieldsOf Text.octal Text.isNumber Text.numberOf Text.isName Text.packName Text.nameOf Text.upToZero Text.unpackName Text.isPacked Line.headers Line.rowIn Line.rowOf Line.markerIn Text.sameText Line.held Line.inBounds Line.readField Line.inFront Line.fit Line.said Line.readAs Line.recordShape Line.codeLine Line.entryLine Line.sayHeader Line.rowAt Line.firstText Line.headerLine Line.isOne Line.textAt Line.fieldsSay Line.lineOf Line.faultWithin Line.testBytes Line.lineAnswer Reading.atStart Reading.expect Reading.expectRecords Reading.recordDone Reading.expectSubs Reading.titleHeader Reading.enterModule Reading.leaveModule Reading.enterSection Reading.leaveSection Reading.countEntry Reading.countExternal Reading.titleStep Reading.libraryStep Reading.libraryEndStep Reading.headerStep Reading.closingStep Reading.entryStep Reading.externalStep Reading.parameterStep Reading.subStep Reading.stepOf Reading.unread Reading.moduleDone Reading.stepped Reading.ifComplete Reading.readLine Reading.readLines Reading.isHeader Reading.atEnd Reading.readingOf Reading.itemsOf State.noWords State.fresh State.isSymbol State.isDefined State.isUndefined State.positionOf State.undefinedOnly State.placedWords State.highestFrom State.highestWhere State.soundSymbol State.differentNames State.soundWord State.sound Placing.entriesIn Placing.externalsIn Placing.codeIn Placing.lengthIn Placing.countIn Placing.valueAt Placing.define Placing.mention Placing.defineAll Placing.mentionAll Placing.joined Placing.linked Placing.putAll Placing.noRoom Placing.overlaps Placing.badArgument Placing.badArguments Placing.outOfRange Placing.twice Placing.duplicates Placing.tableFull Placing.placingFault Placing.placed Search.noModules Search.withModule Search.visit Search.sweep Search.round Search.rounds Search.search Load.tryPlace Load.place Load.entryNames Load.isNeeded Load.takes Load.searched Load.sectionNames Load.testSection Load.walkItem Load.walkItems Load.walked Load.loadRead Load.loadFile Image.valueOf Image.completed Image.two Image.quarters Image.wordRecord Image.recordOf Image.recordsFrom Image.endRecord Image.imageOf Calls.workAfter Calls.shutBy Calls.loadState Calls.loadLent Calls.load Calls.forceState Calls.force Calls.baseState Calls.base Calls.reset Calls.memory Calls.symbolAt Calls.symbols Calls.undefinedAt Calls.undefined Calls.isBroken Calls.endState Calls.end
+unfolding members three sameFlags roundGives taken main low sq cube library digit spaceless pairs hex tableNumbers named wordNumbers allWords markNumber sameState loadIn after then answers baseAt linked coded oneWord again wordsLinked isNumber p1 p2 p3 p4 p5 p6 p7 p8 p9 p10 Text.bytes Text.all Text.any Text.widenLine Text.cutLines Text.withoutEnd Text.linesOf Text.legalFront Text.startsField Text.widenField Text.addToFields Text.fieldsFrom Text.fieldsOf Text.octal Text.isNumber Text.numberOf Text.isName Text.packName Text.nameOf Text.upToZero Text.unpackName Text.isPacked Line.headers Line.rowIn Line.rowOf Line.markerIn Text.sameText Line.held Line.inBounds Line.readField Line.inFront Line.fit Line.said Line.readAs Line.recordShape Line.rowAt Line.firstText Line.headerShapeIn Line.codeShape Line.isOne Line.textAt Line.entryShape Line.shapeFor Line.sayFields Line.lineOf Line.faultIn Line.within Line.testBytes Line.lineAnswer Faults.faultNumber Reading.atStart Reading.expect Reading.expectRecords Reading.recordDone Reading.expectSubs Reading.titleHeader Reading.enterModule Reading.leaveModule Reading.enterSection Reading.leaveSection Reading.countEntry Reading.countExternal Reading.titleStep Reading.libraryStep Reading.libraryEndStep Reading.headerStep Reading.closingStep Reading.entryStep Reading.externalStep Reading.parameterStep Reading.subStep Reading.stepOf Reading.unread Reading.moduleDone Reading.stepped Reading.ifComplete Reading.readLine Reading.readLines Reading.isHeader Reading.atEnd Reading.readingOf Reading.itemsOf State.noWords State.fresh State.isSymbol State.isDefined State.isUndefined State.positionOf State.undefinedOnly State.placedWords State.highestFrom State.highestWhere State.soundSymbol State.differentNames State.soundWord State.sound Placing.entriesIn Placing.externalsIn Placing.codeIn Placing.lengthIn Placing.countIn Placing.valueAt Placing.define Placing.mention Placing.defineAll Placing.mentionAll Placing.joined Placing.linked Placing.putAll Placing.noRoom Placing.overlaps Placing.badArgument Placing.badArguments Placing.outOfRange Placing.twice Placing.duplicates Placing.tableFull Placing.placingFault Placing.placed Search.noModules Search.withModule Search.visit Search.sweep Search.round Search.rounds Search.search Load.tryPlace Load.place Load.entryNames Load.isNeeded Load.takes Load.searched Load.sectionNames Load.testSection Load.walkItem Load.walkItems Load.walked Load.loadRead Load.loadFile Image.valueOf Image.completed Image.two Image.quarters Image.wordRecord Image.recordOf Image.recordsFrom Image.endRecord Image.imageOf Calls.workAfter Calls.shutBy Calls.loadState Calls.loadLent Calls.load Calls.forceState Calls.force Calls.baseState Calls.base Calls.reset Calls.memory Calls.symbolAt Calls.symbols Calls.undefinedAt Calls.undefined Calls.isBroken Calls.endState Calls.end
 accepted-there = refl
 
 search-least : LeastSufficient tableThere libraryModules takenThere
@@ -339,7 +344,7 @@ unfolding tableThere takenThere atLibrary
 search-least = section-taken fresh (main ++ library) fresh-is-sound accepted-there (free mainModule ∷ []) [] 12 libraryModules holds .least
 
 no-cube : takenThere 2 ≡ false
-unfolding mainModule libraryModules atLibrary takenThere members three sameFlags roundGives taken main low sq cube library digit spaceless pairs hex tableNumbers named wordNumbers allWords markNumber sameState loadIn after then answers baseAt linked coded oneWord again wordsLinked isNumber p1 p2 p3 p4 p5 p6 p7 p8 p9 p10 Text.bytes Text.all Text.any Text.widenLine Text.cutLines Text.withoutEnd Text.linesOf Text.legalFront Text.startsField Text.widenField Text.addToFields Text.fieldsFrom Text.fieldsOf Text.octal Text.isNumber Text.numberOf Text.isName Text.packName Text.nameOf Text.upToZero Text.unpackName Text.isPacked Line.headers Line.rowIn Line.rowOf Line.markerIn Text.sameText Line.held Line.inBounds Line.readField Line.inFront Line.fit Line.said Line.readAs Line.recordShape Line.codeLine Line.entryLine Line.sayHeader Line.rowAt Line.firstText Line.headerLine Line.isOne Line.textAt Line.fieldsSay Line.lineOf Line.faultWithin Line.testBytes Line.lineAnswer Reading.atStart Reading.expect Reading.expectRecords Reading.recordDone Reading.expectSubs Reading.titleHeader Reading.enterModule Reading.leaveModule Reading.enterSection Reading.leaveSection Reading.countEntry Reading.countExternal Reading.titleStep Reading.libraryStep Reading.libraryEndStep Reading.headerStep Reading.closingStep Reading.entryStep Reading.externalStep Reading.parameterStep Reading.subStep Reading.stepOf Reading.unread Reading.moduleDone Reading.stepped Reading.ifComplete Reading.readLine Reading.readLines Reading.isHeader Reading.atEnd Reading.readingOf Reading.itemsOf State.noWords State.fresh State.isSymbol State.isDefined State.isUndefined State.positionOf State.undefinedOnly State.placedWords State.highestFrom State.highestWhere State.soundSymbol State.differentNames State.soundWord State.sound Placing.entriesIn Placing.externalsIn Placing.codeIn Placing.lengthIn Placing.countIn Placing.valueAt Placing.define Placing.mention Placing.defineAll Placing.mentionAll Placing.joined Placing.linked Placing.putAll Placing.noRoom Placing.overlaps Placing.badArgument Placing.badArguments Placing.outOfRange Placing.twice Placing.duplicates Placing.tableFull Placing.placingFault Placing.placed Search.noModules Search.withModule Search.visit Search.sweep Search.round Search.rounds Search.search Load.tryPlace Load.place Load.entryNames Load.isNeeded Load.takes Load.searched Load.sectionNames Load.testSection Load.walkItem Load.walkItems Load.walked Load.loadRead Load.loadFile Image.valueOf Image.completed Image.two Image.quarters Image.wordRecord Image.recordOf Image.recordsFrom Image.endRecord Image.imageOf Calls.workAfter Calls.shutBy Calls.loadState Calls.loadLent Calls.load Calls.forceState Calls.force Calls.baseState Calls.base Calls.reset Calls.memory Calls.symbolAt Calls.symbols Calls.undefinedAt Calls.undefined Calls.isBroken Calls.endState Calls.end
+unfolding mainModule libraryModules atLibrary takenThere members three sameFlags roundGives taken main low sq cube library digit spaceless pairs hex tableNumbers named wordNumbers allWords markNumber sameState loadIn after then answers baseAt linked coded oneWord again wordsLinked isNumber p1 p2 p3 p4 p5 p6 p7 p8 p9 p10 Text.bytes Text.all Text.any Text.widenLine Text.cutLines Text.withoutEnd Text.linesOf Text.legalFront Text.startsField Text.widenField Text.addToFields Text.fieldsFrom Text.fieldsOf Text.octal Text.isNumber Text.numberOf Text.isName Text.packName Text.nameOf Text.upToZero Text.unpackName Text.isPacked Line.headers Line.rowIn Line.rowOf Line.markerIn Text.sameText Line.held Line.inBounds Line.readField Line.inFront Line.fit Line.said Line.readAs Line.recordShape Line.rowAt Line.firstText Line.headerShapeIn Line.codeShape Line.isOne Line.textAt Line.entryShape Line.shapeFor Line.sayFields Line.lineOf Line.faultIn Line.within Line.testBytes Line.lineAnswer Faults.faultNumber Reading.atStart Reading.expect Reading.expectRecords Reading.recordDone Reading.expectSubs Reading.titleHeader Reading.enterModule Reading.leaveModule Reading.enterSection Reading.leaveSection Reading.countEntry Reading.countExternal Reading.titleStep Reading.libraryStep Reading.libraryEndStep Reading.headerStep Reading.closingStep Reading.entryStep Reading.externalStep Reading.parameterStep Reading.subStep Reading.stepOf Reading.unread Reading.moduleDone Reading.stepped Reading.ifComplete Reading.readLine Reading.readLines Reading.isHeader Reading.atEnd Reading.readingOf Reading.itemsOf State.noWords State.fresh State.isSymbol State.isDefined State.isUndefined State.positionOf State.undefinedOnly State.placedWords State.highestFrom State.highestWhere State.soundSymbol State.differentNames State.soundWord State.sound Placing.entriesIn Placing.externalsIn Placing.codeIn Placing.lengthIn Placing.countIn Placing.valueAt Placing.define Placing.mention Placing.defineAll Placing.mentionAll Placing.joined Placing.linked Placing.putAll Placing.noRoom Placing.overlaps Placing.badArgument Placing.badArguments Placing.outOfRange Placing.twice Placing.duplicates Placing.tableFull Placing.placingFault Placing.placed Search.noModules Search.withModule Search.visit Search.sweep Search.round Search.rounds Search.search Load.tryPlace Load.place Load.entryNames Load.isNeeded Load.takes Load.searched Load.sectionNames Load.testSection Load.walkItem Load.walkItems Load.walked Load.loadRead Load.loadFile Image.valueOf Image.completed Image.two Image.quarters Image.wordRecord Image.recordOf Image.recordsFrom Image.endRecord Image.imageOf Calls.workAfter Calls.shutBy Calls.loadState Calls.loadLent Calls.load Calls.forceState Calls.force Calls.baseState Calls.base Calls.reset Calls.memory Calls.symbolAt Calls.symbols Calls.undefinedAt Calls.undefined Calls.isBroken Calls.endState Calls.end
 no-cube = refl
 
 three-modules : length libraryModules ≡ 3

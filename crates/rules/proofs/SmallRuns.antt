@@ -4,11 +4,13 @@ use Prim.Native.Nat.{ℕ, zero, suc, _-_, _*_, _^_}
 use Prim.Native.String.{String}
 use mathlib.Core.Bool.{Bool, true, false, cond}
 use mathlib.Core.List.{List, [], _∷_, _++_}
+use mathlib.Core.Option.{none, some}
 use mathlib.Core.Path.{_≡_, refl}
 use lib.ListN.{take, drop, replicate}
 use Rattle.rules.specs.Text as Text
 use Rattle.rules.specs.Answers as Answers
 use Rattle.rules.specs.Line as Line
+use Rattle.rules.specs.Faults as Faults
 use Rattle.rules.specs.Reading as Reading
 use Rattle.rules.specs.State as State
 use Rattle.rules.specs.Lookup as Lookup
@@ -143,14 +145,15 @@ wanting =
     ++ module-of "4 1 ***ENTRY\nZ 0 0\n"
     ++ bytes "7 ***LEB\n6 ***LSB\n7 ***LEB\n"
 
+-- a load's answer that names no column
 abbrev answer : ℕ → ℕ → ℕ → LoadAnswer
-answer k n r = record { number = k; line = n; rounds = r }
+answer k n r = record { number = k; line = n; column = 0; rounds = r }
 
 -- a state of 4,096 words whose first is this one
 abbrev whole : List Symbol → Word → ℕ → State
 whole t w n = state t (w ∷ replicate 4095 unplaced) n unmarked
 
--- the numbers up to 20 that a call can answer
+-- the numbers up to 24 that a call can answer
 pub passing : (ℕ → Bool) → List ℕ → List ℕ
 passing p [] = []
 passing p (n ∷ ns) = let rest = passing p ns in cond (p n) (n ∷ rest) rest
@@ -158,7 +161,7 @@ passing p (n ∷ ns) = let rest = passing p ns in cond (p n) (n ∷ rest) rest
 abbrev answering : Call → List ℕ
 answering c =
     passing (canAnswer c)
-    (0 ∷ 1 ∷ 2 ∷ 3 ∷ 4 ∷ 5 ∷ 6 ∷ 7 ∷ 8 ∷ 9 ∷ 10 ∷ 11 ∷ 12 ∷ 13 ∷ 14 ∷ 15 ∷ 16 ∷ 17 ∷ 18 ∷ 19 ∷ 20 ∷ [])
+    (0 ∷ 1 ∷ 2 ∷ 3 ∷ 4 ∷ 5 ∷ 6 ∷ 7 ∷ 8 ∷ 9 ∷ 10 ∷ 11 ∷ 12 ∷ 13 ∷ 14 ∷ 15 ∷ 16 ∷ 17 ∷ 18 ∷ 19 ∷ 20 ∷ 21 ∷ 22 ∷ 23 ∷ 24 ∷ [])
 
 abbrev called : ℕ → Left → Outcome CallAnswer
 called k l = outcome (record { number = k; line = 0 }) l
@@ -317,6 +320,81 @@ Leftmost =
     × (lineAnswer CodeRecord (with-byte "1 2 A " 127) ≡ fault BadNumber 5)
     × (lineAnswer CodeRecord (with-byte "1 " 127 ++ bytes " A 4") ≡ fault IllegalByte 3)
 
+-- a fault of a line, and the faults of a line
+abbrev at : FaultKind → ℕ → Fault
+at k c = record { kind = k; column = c }
+
+abbrev faults : Expected → List ℕ → List Fault
+faults w text = Faults.faultsOf w text
+
+-- 02, 3/14, "the first byte of the faulty field (an illegal byte's own; for 17 the first field too many, or one past the line's last byte;
+-- for length, 81)": all the faults of a line, by the place of each field
+abbrev AllFaults : Type 0
+AllFaults =
+    (faults CodeRecord (bytes "1 2 3 4") ≡ [])
+    × (faults CodeRecord (bytes "") ≡ [])
+    × (faults CodeRecord (bytes "8 2 X 4") ≡ at BadNumber 1 ∷ at BadNumber 5 ∷ [])
+    × (faults CodeRecord (bytes " X 2  ") ≡ at BadNumber 2 ∷ at FieldCount 7 ∷ [])
+    × (faults CodeRecord (bytes "1 2 3 4 5 6") ≡ at FieldCount 9 ∷ [])
+    × (faults CodeRecord (bytes "* 1 2 3 4 1 6 X") ≡ at BadType 11 ∷ at BadType 13 ∷ at BadNumber 15 ∷ [])
+    × (faults CodeRecord (bytes "* 1 2 3 4 X Y 1") ≡ at BadNumber 11 ∷ at BadNumber 13 ∷ [])
+    × (faults AnyHeader (bytes "3 X ***TITLE") ≡ at BadMarker 3 ∷ at FieldCount 5 ∷ [])
+    × (faults AnyHeader (bytes "4 ***ENTRY") ≡ at BadNumber 3 ∷ at FieldCount 11 ∷ [])
+    × (faults AnyHeader (bytes "10 X 1 Y ***DBIB 7") ≡ at BadNumber 4 ∷ at BadName 6 ∷ at BadNumber 8 ∷ at BadMarker 10 ∷ at FieldCount 18 ∷ [])
+    × (faults AnyHeader (bytes "14 X ***DBDB") ≡ at BadMarker 1 ∷ [])
+    × (faults AnyHeader (with-byte "X " 9) ≡ at BadMarker 1 ∷ at IllegalByte 3 ∷ [])
+    × (faults EntryRecord (bytes "1 X 2 4") ≡ at BadName 1 ∷ at BadNumber 3 ∷ at BadType 5 ∷ at FieldCount 7 ∷ [])
+    × (faults EntryRecord (bytes "A 0 0 4") ≡ at FieldCount 7 ∷ [])
+    × (faults EntryRecord (bytes "A 0 1") ≡ at FieldCount 6 ∷ [])
+    × (faults ParameterRecord (bytes "1 2 10 ") ≡ at BadNumber 5 ∷ [])
+    × (faults ExternalRecord (with-byte "A" 9) ≡ at BadName 1 ∷ at IllegalByte 2 ∷ [])
+    × (faults ExternalRecord (9 ∷ bytes "A" ++ (9 ∷ [])) ≡ at BadName 1 ∷ at IllegalByte 1 ∷ at IllegalByte 3 ∷ [])
+    × (faults InitRecord (with-byte "1 2 3 4 5" 9) ≡ at IllegalByte 10 ∷ [])
+    × (faults AnyHeader (wide 80) ≡ [])
+    × (faults AnyHeader (wide 82) ≡ at IllegalByte 81 ∷ [])
+    × (faults CodeRecord (bytes "1 2 3" ++ replicate 75 32) ≡ at FieldCount 81 ∷ [])
+    × (faults CodeRecord (bytes "1 2 3" ++ replicate 75 32 ++ (9 ∷ [])) ≡ at BadNumber 81 ∷ at IllegalByte 81 ∷ at IllegalByte 81 ∷ [])
+
+-- "On one line the leftmost fault is told; at equal columns the order is 6, 20, 17, 18, 19, 21"
+abbrev Told : Type 0
+Told =
+    (Faults.leftmost [] ≡ none)
+    × (Faults.leftmost (at BadType 2 ∷ at IllegalByte 3 ∷ []) ≡ some (at BadType 2))
+    × (Faults.leftmost (at IllegalByte 3 ∷ at BadType 2 ∷ []) ≡ some (at BadType 2))
+    × (Faults.leftmost (at BadMarker 3 ∷ at IllegalByte 3 ∷ []) ≡ some (at IllegalByte 3))
+    × (Faults.leftmost (at IllegalByte 3 ∷ at BadMarker 3 ∷ []) ≡ some (at IllegalByte 3))
+    × (Faults.leftmost (at FieldCount 3 ∷ at BadMarker 3 ∷ []) ≡ some (at BadMarker 3))
+    × (Faults.leftmost (at BadNumber 3 ∷ at FieldCount 3 ∷ []) ≡ some (at FieldCount 3))
+    × (Faults.leftmost (at BadName 3 ∷ at BadNumber 3 ∷ []) ≡ some (at BadNumber 3))
+    × (Faults.leftmost (at BadType 3 ∷ at BadName 3 ∷ []) ≡ some (at BadName 3))
+    × (Faults.leftmost (at BadType 3 ∷ at BadName 4 ∷ at BadNumber 3 ∷ at FieldCount 2 ∷ []) ≡ some (at FieldCount 2))
+    × (line AnyHeader "3 X ***TITLE" ≡ fault BadMarker 3)
+    × (lineAnswer AnyHeader (with-byte "3 " 9) ≡ fault IllegalByte 3)
+    × (lineAnswer AnyHeader (with-byte "3 X" 9) ≡ fault BadMarker 3)
+    × (lineAnswer AnyHeader (with-byte "3 ***TITLE " 9) ≡ fault IllegalByte 12)
+    × (lineAnswer ExternalRecord (9 ∷ bytes "A") ≡ fault IllegalByte 1)
+    × (lineAnswer EntryRecord (with-byte "A 0 " 9) ≡ fault IllegalByte 5)
+    × (lineAnswer EntryRecord (with-byte "A 0 2 " 9) ≡ fault BadType 5)
+    × (lineAnswer CodeRecord (bytes "1 2 3 4" ++ replicate 73 32 ++ bytes "5") ≡ fault IllegalByte 81)
+    × (lineAnswer CodeRecord (bytes "1 2 3 X" ++ replicate 73 32 ++ bytes "5") ≡ fault BadNumber 7)
+    × (lineAnswer CodeRecord (bytes "1 2 3 4" ++ replicate 72 32 ++ bytes "5") ≡ fault FieldCount 80)
+
+-- "Split 6", by the answer of a load; the earliest line decides; "These set the broken mark as 6 did"
+abbrev Split : Type 0
+Split =
+    (loaded 0 (wide 81) ≡ record { number = 6; line = 1; column = 81; rounds = 0 })
+    × (loaded 0 (with-byte "3 ***TITLE " 127) ≡ record { number = 6; line = 1; column = 12; rounds = 0 })
+    × (loaded 0 (module-of "0 1 0 ***CODE\n1 2 3\n") ≡ record { number = 17; line = 4; column = 6; rounds = 0 })
+    × (loaded 0 (module-of "0 1 0 ***CODE\n1 2 3 8\n") ≡ record { number = 18; line = 4; column = 7; rounds = 0 })
+    × (loaded 0 (module-of "12 1 ***FPB\n0 0 10\n") ≡ record { number = 18; line = 4; column = 5; rounds = 0 })
+    × (loaded 0 (module-of "5 1 ***EXT\n  1A\n") ≡ record { number = 19; line = 4; column = 3; rounds = 0 })
+    × (loaded 0 (bytes "\n2 ***TITLE\n") ≡ record { number = 20; line = 2; column = 1; rounds = 0 })
+    × (loaded 0 (bytes "3 ***END\n") ≡ record { number = 20; line = 1; column = 3; rounds = 0 })
+    × (loaded 0 (module-of "0 1 0 ***CODE\n* 1 2 3 4 0 6 1\n") ≡ record { number = 21; line = 4; column = 13; rounds = 0 })
+    × (loaded 0 (module-of "4 1 ***ENTRY\nA 0 2\n") ≡ record { number = 21; line = 4; column = 5; rounds = 0 })
+    × (loaded 0 (bytes "7 ***LEB\n") ≡ record { number = 7; line = 1; column = 0; rounds = 0 })
+    × (load (holding (linked unmarked)) true (bytes "X") ≡ outcome (record { number = 20; line = 1; column = 1; rounds = 0 }) (now (linked broken)))
+
 -- 7 PLACE, "A file ending too soon is at the last line number plus one", "the earliest line with 6, 7 or 8 decides"
 abbrev Files : Type 0
 Files =
@@ -335,7 +413,7 @@ Files =
     × (file "3 ***TITLE\nA\n3 ***TITLE\n" ≡ Stopped 7 3 0)
     × (file "3 ***TITLE\nA\n6 ***LSB\n" ≡ Stopped 7 3 0)
     × (file "3 ***TITLE\nA\n1 ***END\nB\n" ≡ Stopped 7 4 0)
-    × (file "8\n7 ***LEB\n" ≡ Stopped 6 1 1)
+    × (file "8\n7 ***LEB\n" ≡ Stopped 20 1 1)
     × (file "7 ***LEB\n8\n" ≡ Stopped 7 1 0)
 
 -- 8 LIST, "told at that record or TITLE header", and FORCE's 14 TABLE
@@ -450,9 +528,9 @@ Looking =
 -- 1 BUFFER ahead of 2 DAMAGED, in each call; "RESET tests only 1"; work memory
 abbrev Lengths : Type 0
 Lengths =
-    (load wrongLength true [] ≡ outcome (record { number = 1; line = 0; rounds = 0 }) asBefore)
-    × (load damaged false [] ≡ outcome (record { number = 1; line = 0; rounds = 0 }) asBefore)
-    × (load damaged true [] ≡ outcome (record { number = 2; line = 0; rounds = 0 }) asBefore)
+    (load wrongLength true [] ≡ outcome (answer 1 0 0) asBefore)
+    × (load damaged false [] ≡ outcome (answer 1 0 0) asBefore)
+    × (load damaged true [] ≡ outcome (answer 2 0 0) asBefore)
     × (force wrongLength [] ≡ called 1 asBefore)
     × (force damaged [] ≡ called 2 asBefore)
     × (base wrongLength 9999 ≡ called 1 asBefore)
@@ -475,9 +553,9 @@ Lengths =
 -- 3 RESET and 4 FROZEN, each in its calls, ahead of 5, 12, 15; END tests 16 last, and is repeated
 abbrev Marks : Type 0
 Marks =
-    (load (holding (linked broken)) true [] ≡ outcome (record { number = 3; line = 0; rounds = 0 }) asBefore)
-    × (load (holding (linked frozen)) true (replicate 65537 32) ≡ outcome (record { number = 4; line = 0; rounds = 0 }) asBefore)
-    × (load (holding (linked unmarked)) true (replicate 65537 32) ≡ outcome (record { number = 5; line = 0; rounds = 0 }) asBefore)
+    (load (holding (linked broken)) true [] ≡ outcome (answer 3 0 0) asBefore)
+    × (load (holding (linked frozen)) true (replicate 65537 32) ≡ outcome (answer 4 0 0) asBefore)
+    × (load (holding (linked unmarked)) true (replicate 65537 32) ≡ outcome (answer 5 0 0) asBefore)
     × (force (holding (linked broken)) [] ≡ called 3 asBefore)
     × (force (holding (linked frozen)) [] ≡ called 4 asBefore)
     × (force (holding (linked unmarked)) [] ≡ called 15 asBefore)
@@ -560,12 +638,17 @@ Names =
     × (answerName 14 ≡ bytes "TABLE")
     × (answerName 15 ≡ bytes "NAME")
     × (answerName 16 ≡ bytes "OUT")
-    × (answerName 17 ≡ [])
+    × (answerName 17 ≡ bytes "FIELDS")
+    × (answerName 18 ≡ bytes "NUMBER")
+    × (answerName 19 ≡ bytes "SYMBOL")
+    × (answerName 20 ≡ bytes "MARKER")
+    × (answerName 21 ≡ bytes "TYPE")
+    × (answerName 22 ≡ [])
 
 -- which numbers each call can answer, by "Given when"
 abbrev Answering : Type 0
 Answering =
-    (answering (loading [] []) ≡ 0 ∷ 1 ∷ 2 ∷ 3 ∷ 4 ∷ 5 ∷ 6 ∷ 7 ∷ 8 ∷ 9 ∷ 10 ∷ 11 ∷ 12 ∷ 13 ∷ 14 ∷ [])
+    (answering (loading [] []) ≡ 0 ∷ 1 ∷ 2 ∷ 3 ∷ 4 ∷ 5 ∷ 6 ∷ 7 ∷ 8 ∷ 9 ∷ 10 ∷ 11 ∷ 12 ∷ 13 ∷ 14 ∷ 17 ∷ 18 ∷ 19 ∷ 20 ∷ 21 ∷ [])
     × (answering (forcing []) ≡ 0 ∷ 1 ∷ 2 ∷ 3 ∷ 4 ∷ 14 ∷ 15 ∷ [])
     × (answering (basing 0) ≡ 0 ∷ 1 ∷ 2 ∷ 3 ∷ 4 ∷ 12 ∷ [])
     × (answering resetting ≡ 0 ∷ 1 ∷ [])
@@ -576,8 +659,8 @@ Answering =
 
 -- ---- the claim
 
-pub small-table : Lines × Bytes × Headers × Records × CodeWords × Kinds × Leftmost × Files × Lists × Walks × Orders × Placed × Soundness × Highs × Looking × Lengths × Marks × Lookups × Names × Answering
-unfolding Load.takenAt Load.takenIn Load.sectionsAt Load.sectionsIn Search.count times passing History.canAnswer History.leftBy History.stateAfter History.called History.calledAll Text.bytes Text.all Text.any Text.widenLine Text.cutLines Text.withoutEnd Text.linesOf Text.legalFront Text.startsField Text.widenField Text.addToFields Text.fieldsFrom Text.fieldsOf Text.octal Text.isNumber Text.numberOf Text.isName Text.packName Text.nameOf Text.upToZero Text.unpackName Text.isPacked Line.headers Line.rowIn Line.rowOf Line.markerIn Text.sameText Line.held Line.inBounds Line.readField Line.inFront Line.fit Line.said Line.readAs Line.recordShape Line.codeLine Line.entryLine Line.sayHeader Line.rowAt Line.firstText Line.headerLine Line.isOne Line.textAt Line.fieldsSay Line.lineOf Line.faultWithin Line.testBytes Line.lineAnswer Reading.atStart Reading.expect Reading.expectRecords Reading.recordDone Reading.expectSubs Reading.titleHeader Reading.enterModule Reading.leaveModule Reading.enterSection Reading.leaveSection Reading.countEntry Reading.countExternal Reading.titleStep Reading.libraryStep Reading.libraryEndStep Reading.headerStep Reading.closingStep Reading.entryStep Reading.externalStep Reading.parameterStep Reading.subStep Reading.stepOf Reading.unread Reading.moduleDone Reading.stepped Reading.ifComplete Reading.readLine Reading.readLines Reading.isHeader Reading.atEnd Reading.readingOf Reading.itemsOf State.noWords State.fresh State.isSymbol State.isDefined State.isUndefined State.positionOf State.undefinedOnly State.placedWords State.highestFrom State.highestWhere State.soundSymbol State.differentNames State.soundWord State.sound Placing.entriesIn Placing.externalsIn Placing.codeIn Placing.lengthIn Placing.countIn Placing.valueAt Placing.define Placing.mention Placing.defineAll Placing.mentionAll Placing.joined Placing.linked Placing.putAll Placing.noRoom Placing.overlaps Placing.badArgument Placing.badArguments Placing.outOfRange Placing.twice Placing.duplicates Placing.tableFull Placing.placingFault Placing.placed Search.noModules Search.withModule Search.visit Search.sweep Search.round Search.rounds Search.search Load.tryPlace Load.place Load.entryNames Load.isNeeded Load.takes Load.searched Load.sectionNames Load.testSection Load.walkItem Load.walkItems Load.walked Load.loadRead Load.loadFile Image.valueOf Image.completed Image.two Image.quarters Image.wordRecord Image.recordOf Image.recordsFrom Image.endRecord Image.imageOf Calls.workAfter Calls.shutBy Calls.loadState Calls.loadLent Calls.load Calls.forceState Calls.force Calls.baseState Calls.base Calls.reset Calls.memory Calls.symbolAt Calls.symbols Calls.undefinedAt Calls.undefined Calls.isBroken Calls.endState Calls.end Answers.answers Answers.nameIn Answers.answerName Lookup.answered Lookup.readBy Lookup.halves Lookup.lookUp upTo
+pub small-table : Lines × Bytes × Headers × Records × CodeWords × Kinds × Leftmost × AllFaults × Told × Split × Files × Lists × Walks × Orders × Placed × Soundness × Highs × Looking × Lengths × Marks × Lookups × Names × Answering
+unfolding Load.takenAt Load.takenIn Load.sectionsAt Load.sectionsIn Search.count times passing History.canAnswer History.leftBy History.stateAfter History.called History.calledAll Text.bytes Text.all Text.any Text.widenLine Text.cutLines Text.withoutEnd Text.linesOf Text.legalFront Text.startsField Text.widenField Text.addToFields Text.fieldsFrom Text.fieldsOf Text.octal Text.isNumber Text.numberOf Text.isName Text.packName Text.nameOf Text.upToZero Text.unpackName Text.isPacked Line.headers Line.rowIn Line.rowOf Line.markerIn Text.sameText Line.held Line.inBounds Line.readField Line.inFront Line.fit Line.said Line.readAs Line.recordShape Line.rowAt Line.firstText Line.headerShapeIn Line.codeShape Line.isOne Line.textAt Line.entryShape Line.shapeFor Line.sayFields Line.lineOf Line.faultIn Line.within Line.testBytes Line.lineAnswer Faults.faultNumber Faults.faultAt Faults.fieldFaults Faults.countFaults Faults.shapeFaults Faults.byteFaults Faults.lengthFaults Faults.faultsOf Faults.rank Faults.ahead Faults.aheadOf Faults.leftmost Reading.atStart Reading.expect Reading.expectRecords Reading.recordDone Reading.expectSubs Reading.titleHeader Reading.enterModule Reading.leaveModule Reading.enterSection Reading.leaveSection Reading.countEntry Reading.countExternal Reading.titleStep Reading.libraryStep Reading.libraryEndStep Reading.headerStep Reading.closingStep Reading.entryStep Reading.externalStep Reading.parameterStep Reading.subStep Reading.stepOf Reading.unread Reading.moduleDone Reading.stepped Reading.ifComplete Reading.readLine Reading.readLines Reading.isHeader Reading.atEnd Reading.readingOf Reading.itemsOf State.noWords State.fresh State.isSymbol State.isDefined State.isUndefined State.positionOf State.undefinedOnly State.placedWords State.highestFrom State.highestWhere State.soundSymbol State.differentNames State.soundWord State.sound Placing.entriesIn Placing.externalsIn Placing.codeIn Placing.lengthIn Placing.countIn Placing.valueAt Placing.define Placing.mention Placing.defineAll Placing.mentionAll Placing.joined Placing.linked Placing.putAll Placing.noRoom Placing.overlaps Placing.badArgument Placing.badArguments Placing.outOfRange Placing.twice Placing.duplicates Placing.tableFull Placing.placingFault Placing.placed Search.noModules Search.withModule Search.visit Search.sweep Search.round Search.rounds Search.search Load.tryPlace Load.place Load.entryNames Load.isNeeded Load.takes Load.searched Load.sectionNames Load.testSection Load.walkItem Load.walkItems Load.walked Load.loadRead Load.loadFile Image.valueOf Image.completed Image.two Image.quarters Image.wordRecord Image.recordOf Image.recordsFrom Image.endRecord Image.imageOf Calls.workAfter Calls.shutBy Calls.loadState Calls.loadLent Calls.load Calls.forceState Calls.force Calls.baseState Calls.base Calls.reset Calls.memory Calls.symbolAt Calls.symbols Calls.undefinedAt Calls.undefined Calls.isBroken Calls.endState Calls.end Answers.answers Answers.nameIn Answers.answerName Lookup.answered Lookup.readBy Lookup.halves Lookup.lookUp upTo
 small-table = (
   (refl, refl, refl, refl, refl),
   (refl, refl, refl, refl, refl, refl, refl, refl, refl),
@@ -585,6 +668,9 @@ small-table = (
   (refl, refl, refl, refl, refl, refl, refl, refl, refl, refl, refl, refl, refl, refl, refl, refl, refl, refl, refl, refl, refl, refl),
   (refl, refl, refl, refl, refl, refl, refl, refl, refl, refl, refl, refl, refl, refl, refl),
   (refl, refl, refl, refl, refl, refl, refl, refl, refl, refl, refl, refl, refl, refl, refl, refl, refl, refl, refl, refl, refl, refl, refl, refl, refl, refl, refl, refl, refl, refl, refl, refl, refl, refl, refl, refl, refl, refl, refl, refl),
+  (refl, refl, refl, refl, refl, refl, refl, refl, refl, refl, refl, refl),
+  (refl, refl, refl, refl, refl, refl, refl, refl, refl, refl, refl, refl, refl, refl, refl, refl, refl, refl, refl, refl, refl, refl, refl),
+  (refl, refl, refl, refl, refl, refl, refl, refl, refl, refl, refl, refl, refl, refl, refl, refl, refl, refl, refl, refl),
   (refl, refl, refl, refl, refl, refl, refl, refl, refl, refl, refl, refl),
   (refl, refl, refl, refl, refl, refl, refl, refl, refl, refl, refl, refl, refl, refl, refl, refl, refl),
   (refl, refl, refl, refl, refl, refl, refl, refl, refl, refl),
@@ -597,6 +683,6 @@ small-table = (
   (refl, refl, refl, refl, refl, refl, refl, refl, refl, refl, refl, refl, refl, refl, refl, refl, refl, refl, refl, refl, refl),
   (refl, refl, refl, refl, refl, refl, refl, refl, refl, refl, refl, refl, refl),
   (refl, refl, refl, refl, refl, refl, refl, refl, refl, refl, refl, refl, refl, refl, refl, refl, refl, refl),
-  (refl, refl, refl, refl, refl, refl, refl, refl, refl, refl, refl, refl, refl, refl, refl, refl, refl, refl),
+  (refl, refl, refl, refl, refl, refl, refl, refl, refl, refl, refl, refl, refl, refl, refl, refl, refl, refl, refl, refl, refl, refl, refl),
   (refl, refl, refl, refl, refl, refl, refl, refl),
 )

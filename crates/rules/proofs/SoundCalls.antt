@@ -149,9 +149,9 @@ load-sound s false file h = h
 load-sound s true file h = go (load-ends s true file)
   where
     go : Ending s (load (holding s) true file) → Sound (stateAfter s (load (holding s) true file .left))
-    go (done e) =
+    go (done e _) =
         rw (load-accepted s file e .1) (items-sound (itemsOf file) (progress (walking s) 0) (file-sound file) h)
-    go (ahead _ _ _ l) = rw l h
+    go (ahead _ _ _ _ l) = rw l h
     go (forFile _ _ l) = rw l (marked-sound broken s h)
 
 -- "Demands 2 and 3 hold from every sound state": every call leaves one

@@ -19,7 +19,7 @@ use Rattle.rules.proofs.BoolLaws.{cond-cases, never}
 use Rattle.rules.proofs.SearchLaws.{search-keeps}
 use Rattle.rules.proofs.TableLaws.{different-joined}
 use Rattle.rules.proofs.TestLaws.{between-low}
-use Rattle.rules.proofs.AnswerLaws.{readingNumber, reading-number}
+use Rattle.rules.proofs.AnswerLaws.{readingNumber, reading-number, right-wider, right-fault, file-fault-low}
 
 -- ---- a refused walk stays refused: where the walk is accepted afterwards, it was before
 
@@ -112,7 +112,7 @@ items-different p (i ∷ is) h = items-different (walkItem p i) is (item-differe
 -- ---- an accepted load
 
 abbrev accomplished : Progress → Loaded
-accomplished p = loaded (refusal 0 0) (p .rounds) (p .walk .state)
+accomplished p = loaded (refusal 0 0) 0 (p .rounds) (p .walk .state)
 
 walked-accepted : (s : State) (p : Progress) → walked s p .refusal .number ≡ 0 →
     (accepted (p .walk) ≡ true) × (walked s p ≡ accomplished p)
@@ -126,7 +126,7 @@ walked-accepted s p =
 read-accepted : (s : State) (file : List ℕ) (r : Reading) → readingNumber r ≡ true → loadRead s file r .refusal .number ≡ 0 →
     let p = walkFrom s (itemsOf file) in (accepted (p .walk) ≡ true) × (loadRead s file r ≡ accomplished p)
 unfolding loadRead readingNumber
-read-accepted s file (Stopped k n c) t h = absurd (omega (arith, between-low 6 8 k t))
+read-accepted s file (Stopped k n c) t h = absurd (omega (arith, file-fault-low k (right-fault k c (right-wider k c t))))
 read-accepted s file Complete t h = walked-accepted s (walkFrom s (itemsOf file)) h
 
 -- an accepted load is what its walk comes to
@@ -137,7 +137,7 @@ pub load-accepted : (s : State) (file : List ℕ) → load (holding s) true file
     let p = walkFrom s (itemsOf file) in
     (accepted (p .walk) ≡ true)
     × (load (holding s) true file
-    ≡ loadOutcome (loaded (refusal 0 0) (p .rounds) (p .walk .state)))
+    ≡ loadOutcome (loaded (refusal 0 0) 0 (p .rounds) (p .walk .state)))
 unfolding load loadLent loadState loadFile
 load-accepted s file =
     let p = walkFrom s (itemsOf file) in

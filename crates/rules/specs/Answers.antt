@@ -1,10 +1,11 @@
--- Document 01, "What the calls return": the answers, each with its number and its name.
+-- Document 01, "What the calls return": the answers, each with its number and its name; "new numbers [..] join document 01's list" (02,
+-- 3/14).
 use Prim.Native.Nat.{ℕ}
 use Prim.Native.String.{String}
-use mathlib.Core.Bool.{cond}
+use mathlib.Core.Bool.{Bool, cond, _||_}
 use mathlib.Core.List.{List, [], _∷_}
 use lib.Dec.{eqb}
-use Rattle.rules.specs.Text.{bytes}
+use Rattle.rules.specs.Text.{bytes, between}
 
 -- the numbers: every definition names them, and so does the code (src/answer.rt)
 abbrev pub DONE : ℕ
@@ -58,6 +59,22 @@ NAME = 15
 abbrev pub OUT : ℕ
 OUT = 16
 
+-- 02, 3/14: "17 is the field count, 18 a number, 19 a name, 20 a marker, or a code [..], 21 a relocation type [..] or an entry type"
+abbrev pub FIELDS : ℕ
+FIELDS = 17
+
+abbrev pub NUMBER : ℕ
+NUMBER = 18
+
+abbrev pub SYMBOL : ℕ
+SYMBOL = 19
+
+abbrev pub MARKER : ℕ
+MARKER = 20
+
+abbrev pub TYPE : ℕ
+TYPE = 21
+
 -- a row of the table
 pub record Answer : Type 0 where
   pub number : ℕ
@@ -86,6 +103,11 @@ answers =
     ∷ answer TABLE "TABLE"
     ∷ answer NAME "NAME"
     ∷ answer OUT "OUT"
+    ∷ answer FIELDS "FIELDS"
+    ∷ answer NUMBER "NUMBER"
+    ∷ answer SYMBOL "SYMBOL"
+    ∷ answer MARKER "MARKER"
+    ∷ answer TYPE "TYPE"
     ∷ []
 
 -- the name in the row with a number, nothing where there is none
@@ -95,3 +117,17 @@ nameIn (a ∷ more) n = let rest = nameIn more n in cond (eqb (a .number) n) (a 
 
 unfoldable pub answerName : ℕ → List ℕ
 answerName n = nameIn answers n
+
+-- ---- which answers tell what
+
+-- a fault in a line, which has a column: 6, and the numbers that are split from it
+abbrev pub isLineFault : ℕ → Bool
+isLineFault k = eqb k LINE || between FIELDS TYPE k
+
+-- a fault of reading: besides, 7 and 8, which have no column
+abbrev pub isReadingFault : ℕ → Bool
+isReadingFault k = isLineFault k || between PLACE LIST k
+
+-- "LOAD refused by 6 to 14 sets the broken mark", and "these set the broken mark as 6 did"
+abbrev pub isFileFault : ℕ → Bool
+isFileFault k = isLineFault k || between PLACE TABLE k

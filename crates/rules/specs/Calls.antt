@@ -51,14 +51,14 @@ outcome a l = record { answer = a; left = l }
 
 -- ---- LOAD
 
-abbrev pub loadAnswer : ℕ → ℕ → ℕ → LoadAnswer
-loadAnswer k n r = record { number = k; line = n; rounds = r }
+abbrev pub loadAnswer : ℕ → ℕ → ℕ → ℕ → LoadAnswer
+loadAnswer k n c r = record { number = k; line = n; column = c; rounds = r }
 
 abbrev pub loadStopped : ℕ → Outcome LoadAnswer
-loadStopped k = outcome (loadAnswer k 0 0) asBefore
+loadStopped k = outcome (loadAnswer k 0 0 0) asBefore
 
 abbrev pub loadOutcome : Loaded → Outcome LoadAnswer
-loadOutcome l = outcome (loadAnswer (l .refusal .number) (l .refusal .line) (l .rounds)) (now (l .state))
+loadOutcome l = outcome (loadAnswer (l .refusal .number) (l .refusal .line) (l .column) (l .rounds)) (now (l .state))
 
 -- 3 and 4, then 5 TOO LONG, then the file
 unfoldable pub loadState : State → List ℕ → Outcome LoadAnswer

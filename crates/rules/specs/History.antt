@@ -10,7 +10,7 @@ use Rattle.rules.specs.Reading.{Module, Item, free, section, itemsOf}
 use Rattle.rules.specs.State.{State, fresh}
 use Rattle.rules.specs.Placing.{codeCount}
 use Rattle.rules.specs.Search.{ModuleSet}
-use Rattle.rules.specs.Answers.{DONE, BUFFER, DAMAGED, RESET, FROZEN, RANGE, TABLE, NAME, OUT}
+use Rattle.rules.specs.Answers.{DONE, BUFFER, DAMAGED, RESET, FROZEN, TOO-LONG, RANGE, TABLE, NAME, OUT, isFileFault}
 use Rattle.rules.specs.Load.{Progress, progress, walking, searched, testSection, walkItem}
 use Rattle.rules.specs.Calls.{Lent, Left, asBefore, now, holding, workAfter, load, force, base, reset, memory, symbols, undefined, end}
 use Rattle.rules.specs.declared.answer.LoadAnswer.{LoadAnswer}
@@ -67,7 +67,7 @@ numberIn (ofEnd r out) = r .number
 
 -- which numbers each call can answer, by "Given when" of the table of answers
 unfoldable pub canAnswer : Call → ℕ → Bool
-canAnswer (loading work file) k = leb k TABLE
+canAnswer (loading work file) k = leb k TOO-LONG || isFileFault k
 canAnswer (forcing name) k = leb k FROZEN || (eqb k TABLE || eqb k NAME)
 canAnswer (basing address) k = leb k FROZEN || eqb k RANGE
 canAnswer resetting k = leb k BUFFER

@@ -2,6 +2,7 @@ pub mod Limits
 pub mod Text
 pub mod Answers
 pub mod Line
+pub mod Faults
 pub mod Reading
 pub mod State
 pub mod Lookup

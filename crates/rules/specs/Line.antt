@@ -139,10 +139,10 @@ readAs s end fs = said (s .says) (fit end (s .kinds) fs)
 abbrev pub headerShape : Row → Shape
 headerShape r = shape (Anything ∷ r .fields ++ (Marker (r .code) ∷ [])) (λ v. Head (r .says v))
 
-unfoldable pub sayHeader : ℕ → List Field → Option Row → LineAnswer
-sayHeader end [] r = Blank
-sayHeader end (f ∷ fs) none = Bad (fault BadMarker (f .column))
-sayHeader end (f ∷ fs) (some r) = readAs (headerShape r) end (f ∷ fs)
+-- none where the code is unknown or no number
+unfoldable pub headerShapeIn : Option Row → Option Shape
+headerShapeIn none = none
+headerShapeIn (some r) = some (headerShape r)
 
 unfoldable pub rowAt : Option ℕ → Option Row
 rowAt none = none
@@ -152,10 +152,6 @@ rowAt (some c) = rowOf c
 unfoldable pub firstText : List Field → List ℕ
 firstText [] = []
 firstText (f ∷ fs) = f .text
-
--- a code that is unknown or no number is a fault of its own
-unfoldable pub headerLine : ℕ → List Field → LineAnswer
-headerLine end fs = sayHeader end fs (rowAt (numberOf (firstText fs)))
 
 -- ---- data records
 
@@ -205,12 +201,9 @@ recordShape subRecord = shape (number ∷ number ∷ []) (λ v. Sub)
 abbrev pub starred : List Field → Bool
 starred fs = sameText (firstText fs) (42 ∷ [])
 
-abbrev pub readRecord : Record → ℕ → List Field → LineAnswer
-readRecord r end fs = readAs (recordShape r) end fs
-
 -- "A code record is four numbers, the quarters; or an asterisk field, four quarters, then 0, type and arg."
-unfoldable pub codeLine : ℕ → List Field → LineAnswer
-codeLine end fs = readRecord (cond (starred fs) linkedCode plainCode) end fs
+unfoldable pub codeShape : List Field → Shape
+codeShape fs = recordShape (cond (starred fs) linkedCode plainCode)
 
 unfoldable pub isOne : Option ℕ → Bool
 isOne none = false
@@ -221,47 +214,56 @@ unfoldable pub textAt : List Field → ℕ → List ℕ
 textAt fs k = getD fs k (record { column = 0; text = [] }) .text
 
 -- "symbol value 0, or symbol value 1 paramnum"
-unfoldable pub entryLine : ℕ → List Field → LineAnswer
-entryLine end fs = readRecord (cond (isOne (numberOf (textAt fs 2))) relocatedEntry absoluteEntry) end fs
-
--- what the fields of a line say, by what is expected
-unfoldable pub fieldsSay : Expected → ℕ → List Field → LineAnswer
-fieldsSay AnyHeader end fs = headerLine end fs
-fieldsSay OpeningTitle end fs = readRecord openingTitle end fs
-fieldsSay ClosingTitle end fs = readRecord closingTitle end fs
-fieldsSay CodeRecord end fs = codeLine end fs
-fieldsSay EntryRecord end fs = entryLine end fs
-fieldsSay ExternalRecord end fs = readRecord external end fs
-fieldsSay DataRecord end fs = readRecord dataRecord end fs
-fieldsSay InitRecord end fs = readRecord initRecord end fs
-fieldsSay ParameterRecord end fs = readRecord parameterRecord end fs
-fieldsSay SubRecord end fs = readRecord subRecord end fs
+unfoldable pub entryShape : List Field → Shape
+entryShape fs = recordShape (cond (isOne (numberOf (textAt fs 2))) relocatedEntry absoluteEntry)
 
 -- ---- the whole line
 
--- "A line with no field is skipped but counted"
-unfoldable pub lineOf : Expected → ℕ → List Field → LineAnswer
-lineOf w end [] = Blank
-lineOf w end (f ∷ fs) = fieldsSay w end (f ∷ fs)
+-- what the fields of a line have to be, by what is expected
+unfoldable pub shapeFor : Expected → List Field → Option Shape
+shapeFor AnyHeader fs = headerShapeIn (rowAt (numberOf (firstText fs)))
+shapeFor OpeningTitle fs = some (recordShape openingTitle)
+shapeFor ClosingTitle fs = some (recordShape closingTitle)
+shapeFor CodeRecord fs = some (codeShape fs)
+shapeFor EntryRecord fs = some (entryShape fs)
+shapeFor ExternalRecord fs = some (recordShape external)
+shapeFor DataRecord fs = some (recordShape dataRecord)
+shapeFor InitRecord fs = some (recordShape initRecord)
+shapeFor ParameterRecord fs = some (recordShape parameterRecord)
+shapeFor SubRecord fs = some (recordShape subRecord)
 
--- is this a fault told within the first n columns
-unfoldable pub faultWithin : ℕ → LineAnswer → Bool
-faultWithin n (Bad f) = leb (f .column) n
-faultWithin n Blank = false
-faultWithin n (Head h) = false
-faultWithin n (Opening t) = false
-faultWithin n (Closing t) = false
-faultWithin n (Code w) = false
-faultWithin n (Entered e) = false
-faultWithin n (Mentioned x) = false
-faultWithin n Ignored = false
-faultWithin n (Parameter s) = false
-faultWithin n Sub = false
+-- "A line with no field is skipped but counted"; a code that is unknown or no number is a fault of its own
+unfoldable pub sayFields : ℕ → List Field → Option Shape → LineAnswer
+sayFields end [] s = Blank
+sayFields end (f ∷ fs) none = Bad (fault BadMarker (f .column))
+sayFields end (f ∷ fs) (some s) = readAs s end (f ∷ fs)
+
+unfoldable pub lineOf : Expected → ℕ → List Field → LineAnswer
+lineOf w end fs = sayFields end fs (shapeFor w fs)
+
+-- the fault that is told, if any
+unfoldable pub faultIn : LineAnswer → Option Fault
+faultIn (Bad f) = some f
+faultIn Blank = none
+faultIn (Head h) = none
+faultIn (Opening t) = none
+faultIn (Closing t) = none
+faultIn (Code w) = none
+faultIn (Entered e) = none
+faultIn (Mentioned x) = none
+faultIn Ignored = none
+faultIn (Parameter s) = none
+faultIn Sub = none
+
+-- does it stand within the first n columns
+unfoldable pub within : ℕ → Option Fault → Bool
+within n none = false
+within n (some f) = leb (f .column) n
 
 -- the first illegal byte, or the 81st, counts among the line's faults, of which the leftmost is told
 unfoldable pub testBytes : ℕ → ℕ → LineAnswer → LineAnswer
 testBytes front size answer =
-    cond (leb size front) answer (cond (faultWithin front answer) answer (Bad (fault IllegalByte (front + 1))))
+    cond (leb size front) answer (cond (within front (faultIn answer)) answer (Bad (fault IllegalByte (front + 1))))
 
 -- what a line says, given what is expected of it
 unfoldable pub lineAnswer : Expected → List ℕ → LineAnswer

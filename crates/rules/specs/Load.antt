@@ -110,25 +110,27 @@ sectionsIn (i ∷ is) = sectionsAt i + sectionsIn is
 
 -- ---- the load
 
--- a load's refusal and rounds, and the state afterwards
+-- a load's refusal, with the column of a line's fault, its rounds, and the state afterwards
 pub record Loaded : Type 0 where
   pub refusal : Refusal
+  pub column : ℕ
   pub rounds : ℕ
   pub state : State
 
-abbrev pub loaded : Refusal → ℕ → State → Loaded
-loaded r n s = record { refusal = r; rounds = n; state = s }
+abbrev pub loaded : Refusal → ℕ → ℕ → State → Loaded
+loaded r c n s = record { refusal = r; column = c; rounds = n; state = s }
 
--- "LOAD refused by 6 to 14 sets the broken mark."; the state is otherwise as it was
+-- "LOAD refused by 6 to 14 sets the broken mark."; the state is otherwise as it was; the walk names no column
 unfoldable pub walked : State → Progress → Loaded
 walked s p =
     cond
     (accepted (p .walk))
-    (loaded (refusal DONE 0) (p .rounds) (p .walk .state))
-    (loaded (p .walk .refusal) 0 (marked broken s))
+    (loaded (refusal DONE 0) 0 (p .rounds) (p .walk .state))
+    (loaded (p .walk .refusal) 0 0 (marked broken s))
 
+-- "These set the broken mark as 6 did", and "each also tells the column"
 unfoldable pub loadRead : State → List ℕ → Reading → Loaded
-loadRead s file (Stopped k n c) = loaded (refusal k n) 0 (marked broken s)
+loadRead s file (Stopped k n c) = loaded (refusal k n) c 0 (marked broken s)
 loadRead s file Complete = walked s (walkFrom s (itemsOf file))
 
 -- "then the whole file is read [..] Then the walk"

@@ -1,12 +1,13 @@
--- Document 01, "The lines": the blocks of a file, in order; answers 6, 7 and 8; and what a file holds.
+-- Document 01, "The lines": the blocks of a file, in order; answers 6 to 8 and 17 to 21; and what a file holds.
 use Prim.Native.Nat.{ℕ, suc, _+_, _-_}
 use mathlib.Core.Bool.{Bool, true, false, cond, not, _&&_, _||_}
 use mathlib.Core.List.{List, [], _∷_, _++_}
 use lib.Dec.{eqb, leb, ltb}
 use Rattle.rules.specs.Limits.{mostEntries, mostExternals, mostModules}
 use Rattle.rules.specs.Text.{linesOf}
-use Rattle.rules.specs.Answers.{LINE, PLACE, LIST}
+use Rattle.rules.specs.Answers.{PLACE, LIST}
 use Rattle.rules.specs.Line.{lineAnswer}
+use Rattle.rules.specs.Faults.{faultNumber}
 use Rattle.rules.specs.declared.line.Fault.{Fault}
 use Rattle.rules.specs.declared.line.CodeWord.{CodeWord}
 use Rattle.rules.specs.declared.line.Entry.{Entry}
@@ -108,6 +109,7 @@ countExternal m =
 
 -- ---- what a line does
 
+-- "7 and 8 come after all, at column 0"
 abbrev pub misplaced : Step
 misplaced = Stop PLACE 0
 
@@ -172,7 +174,7 @@ subStep m =
 
 -- line n, and what it says, where the reading stands at m
 unfoldable pub stepOf : ℕ → Mode → LineAnswer → Step
-stepOf n m (Bad f) = Stop LINE (f .column)
+stepOf n m (Bad f) = Stop (faultNumber (f .kind)) (f .column)
 stepOf n m Blank = Next m
 stepOf n m (Head h) = headerStep n m h
 stepOf n m (Opening t) = Next (enterModule t m)
@@ -270,7 +272,7 @@ atEnd n m =
 abbrev pub ended : ReadSoFar → Reading
 ended r = ifComplete (r .fault) (atEnd (r .line) (r .mode)) (r .fault)
 
--- "the whole file is read, and the earliest line with 6, 7 or 8 decides"
+-- "the whole file is read, and the earliest line with 6, 7 or 8 decides", or with one of the numbers that are split from 6
 unfoldable pub readingOf : List ℕ → Reading
 readingOf file = ended (readLines unread (linesOf file))
 

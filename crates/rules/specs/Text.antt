@@ -65,11 +65,15 @@ withoutEnd (b ∷ rest) = let more = withoutEnd rest in cond (isLineEnd (b ∷ r
 unfoldable pub linesOf : List ℕ → List (List ℕ)
 linesOf file = map withoutEnd (cutLines file)
 
--- "line at most 80 bytes without its end", "Other bytes are 32 to 126": how many legal bytes stand at a line's front, at most n
+-- "Other bytes are 32 to 126."
+abbrev pub isLegal : ℕ → Bool
+isLegal b = between 32 126 b
+
+-- "line at most 80 bytes without its end": how many legal bytes stand at a line's front, at most n
 unfoldable pub legalFront : ℕ → List ℕ → ℕ
 legalFront n [] = 0
 legalFront zero (b ∷ rest) = 0
-legalFront (suc n) (b ∷ rest) = cond (between 32 126 b) (suc (legalFront n rest)) 0
+legalFront (suc n) (b ∷ rest) = cond (isLegal b) (suc (legalFront n rest)) 0
 
 -- ---- fields
 

@@ -1,6 +1,6 @@
 // What the calls answer.
 
-// Document 01's numbers. specs/Answers.antt has them with their names.
+// The numbers of documents 01 and 02. specs/Answers.antt has them with their names.
 pub const DONE: u64 = 0;
 
 pub const BUFFER: u64 = 1;
@@ -35,18 +35,30 @@ pub const NAME: u64 = 15;
 
 pub const OUT: u64 = 16;
 
-// Why a load goes no further: a number of document 01 and a line of the file; both are 0 where it goes on.
+pub const FIELDS: u64 = 17;
+
+pub const NUMBER: u64 = 18;
+
+pub const SYMBOL: u64 = 19;
+
+pub const MARKER: u64 = 20;
+
+pub const TYPE: u64 = 21;
+
+// Why a walk goes no further: an answer's number and a line of the file; both are 0 where it goes on.
 pub struct Refusal {
     pub number: u64,
     pub line: u64,
 }
 
-// The answers: document 01's number and line, then what the call gives; all else is 0 in a refusal.
+// The answers: number and line, then what the call gives, which is 0 in a refusal.
 
+// LOAD. column is that of a line's fault, and 0 where none is named.
 #[repr(C)]
 pub struct LoadAnswer {
     pub number: u64,
     pub line: u64,
+    pub column: u64,
     pub rounds: u64,
 }
 

@@ -1,6 +1,6 @@
 // What one line of an object file says.
 
-// What is wrong with a line: every kind is answer 6 (LINE).
+// What is wrong with a line. specs/Faults.antt gives each kind's answer.
 pub enum FaultKind {
     // A byte outside 32 to 126, or an 81st byte.
     IllegalByte,

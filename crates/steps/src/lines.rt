@@ -8,7 +8,7 @@ use crate::records::external_step;
 use crate::records::parameter_step;
 use crate::records::sub_step;
 use crate::records::word_step;
-use rules::answer::LINE;
+use crate::stops::bad_line;
 use rules::answer::PLACE;
 use rules::line::Expected;
 use rules::line::LineAnswer;
@@ -23,10 +23,7 @@ pub fn step_of(n: u32, m: Mode, answer: LineAnswer) -> Step
     ensures { λ r. ⌜ r ≡ stepOf n m answer ⌝ }
 {
     match answer {
-        LineAnswer::Bad(f) => Step::Stop {
-            number: LINE,
-            column: f.column,
-        },
+        LineAnswer::Bad(fault) => bad_line(fault),
         LineAnswer::Blank => Step::Next(m),
         LineAnswer::Head(h) => header_step(n, m, h),
         LineAnswer::Opening(title) => Step::Next(enter_module(title, m)),

@@ -3,7 +3,7 @@ use lib.ListN.{take}
 use borrow.Author.Needs.{needs}
 use Rattle.rules.specs.Text.{bytes}
 use Rattle.rules.specs.Answers.{answers, nameIn, answerName}
-use Rattle.answers.proofs.NamedLaws.{named-is, no-name}
+use Rattle.answers.proofs.NamedLaws.{named-is, below, no-name}
 use Rattle.answers.proofs.answer_name.Statement.{statement}
 use Rattle.answers.proofs.answer_name.Tie as tie
 
@@ -60,6 +60,21 @@ named-requires-17 c κs = search needs
 
 named-requires-18 : tie.Need-named-requires-18
 named-requires-18 c κs = search needs
+
+named-requires-19 : tie.Need-named-requires-19
+named-requires-19 c κs = search needs
+
+named-requires-20 : tie.Need-named-requires-20
+named-requires-20 c κs = search needs
+
+named-requires-21 : tie.Need-named-requires-21
+named-requires-21 c κs = search needs
+
+named-requires-22 : tie.Need-named-requires-22
+named-requires-22 c κs = search needs
+
+named-requires-23 : tie.Need-named-requires-23
+named-requires-23 c κs = search needs
 
 returns : tie.Need-returns
 unfolding answerName nameIn answers bytes
@@ -130,11 +145,30 @@ unfolding answerName nameIn answers bytes
 returns-17 c = named-is (c .named17 .ensures) (c .before .before .match .keys17) refl
 
 returns-18 : tie.Need-returns-18
-returns-18 c =
-    let r = c .before .before .match .rest in
-    let e = c .named18 .ensures in
-    ap₂ take (e .length) (e .bytes)
-    ∙ sym (no-name _ (r .0 .0 .0 .0 .0 .0 .0 .0 .0 .0 .0 .0 .0 .0 .0 .0 .1) (r .0 .0 .0 .0 .0 .0 .0 .0 .0 .0 .0 .0 .0 .0 .0 .1) (r .0 .0 .0 .0 .0 .0 .0 .0 .0 .0 .0 .0 .0 .0 .1) (r .0 .0 .0 .0 .0 .0 .0 .0 .0 .0 .0 .0 .0 .1) (r .0 .0 .0 .0 .0 .0 .0 .0 .0 .0 .0 .0 .1) (r .0 .0 .0 .0 .0 .0 .0 .0 .0 .0 .0 .1) (r .0 .0 .0 .0 .0 .0 .0 .0 .0 .0 .1) (r .0 .0 .0 .0 .0 .0 .0 .0 .0 .1) (r .0 .0 .0 .0 .0 .0 .0 .0 .1) (r .0 .0 .0 .0 .0 .0 .0 .1) (r .0 .0 .0 .0 .0 .0 .1) (r .0 .0 .0 .0 .0 .1) (r .0 .0 .0 .0 .1) (r .0 .0 .0 .1) (r .0 .0 .1) (r .0 .1) (r .1))
+unfolding answerName nameIn answers bytes
+returns-18 c = named-is (c .named18 .ensures) (c .before .before .match .keys18) refl
+
+returns-19 : tie.Need-returns-19
+unfolding answerName nameIn answers bytes
+returns-19 c = named-is (c .named19 .ensures) (c .before .before .match .keys19) refl
+
+returns-20 : tie.Need-returns-20
+unfolding answerName nameIn answers bytes
+returns-20 c = named-is (c .named20 .ensures) (c .before .before .match .keys20) refl
+
+returns-21 : tie.Need-returns-21
+unfolding answerName nameIn answers bytes
+returns-21 c = named-is (c .named21 .ensures) (c .before .before .match .keys21) refl
+
+returns-22 : tie.Need-returns-22
+unfolding answerName nameIn answers bytes
+returns-22 c = named-is (c .named22 .ensures) (c .before .before .match .keys22) refl
+
+returns-23 : tie.Need-returns-23
+unfolding below
+returns-23 c =
+    let e = c .named23 .ensures in
+    ap₂ take (e .length) (e .bytes) ∙ sym (no-name _ (c .before .before .match .rest))
 
 pub answer-name-spec : {M : Type 1} → statement M
 answer-name-spec =
@@ -158,6 +192,11 @@ answer-name-spec =
     named-requires-16
     named-requires-17
     named-requires-18
+    named-requires-19
+    named-requires-20
+    named-requires-21
+    named-requires-22
+    named-requires-23
     returns
     returns-2
     returns-3
@@ -175,4 +214,9 @@ answer-name-spec =
     returns-15
     returns-16
     returns-17
-    returns-18)
+    returns-18
+    returns-19
+    returns-20
+    returns-21
+    returns-22
+    returns-23)

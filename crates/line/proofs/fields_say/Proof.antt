@@ -1,12 +1,13 @@
 -- `line::fields_say` meets its contract: by whether there is a field, then by what is expected.
 -- Assumes nothing.
-use mathlib.Core.Path.{_≡_}
+use mathlib.Core.Option.{some}
+use mathlib.Core.Path.{_≡_, refl}
 use denote.Ref.{now}
-use Rattle.rules.specs.Line.{readAs, recordShape, fieldsSay, lineOf}
+use Rattle.rules.specs.Line.{Shape, readAs, recordShape, shapeFor, lineOf}
 use Rattle.rules.specs.declared.line.LineAnswer.{LineAnswer}
 use Rattle.line.specs.Fitting.{endColumn, lineFields}
 use Rattle.line.specs.Shapes.{records, shapeOf, shapeLine}
-use Rattle.line.proofs.AnswerLaws.{line-blank, line-fields}
+use Rattle.line.proofs.AnswerLaws.{line-blank, line-shaped}
 use borrow.Author.Needs.{needs}
 use Rattle.line.proofs.fields_say.Statement.{statement}
 use Rattle.line.proofs.fields_say.Tie as tie
@@ -14,12 +15,13 @@ use Rattle.line.proofs.fields_say.Tie as tie
 field-start-requires : tie.Need-field-start-requires
 field-start-requires c κs = search needs
 
--- where there is a field, what the fields say is what the line says
-some : (c : tie.Else1) {a : LineAnswer} →
+-- where there is a field, the shape that is expected tells what the line says
+some-field : (c : tie.Else1) {s : Shape} {a : LineAnswer} →
     let x = c .before .before .before .args in
-    a ≡ fieldsSay (x .expected) (endColumn (x .at) (x .stop)) (lineFields (x .at) (x .stop) (now (x .file))) →
+    a ≡ readAs s (endColumn (x .at) (x .stop)) (lineFields (x .at) (x .stop) (now (x .file))) →
+    shapeFor (x .expected) (lineFields (x .at) (x .stop) (now (x .file))) ≡ some s →
     a ≡ lineOf (x .expected) (endColumn (x .at) (x .stop)) (lineFields (x .at) (x .stop) (now (x .file)))
-some c p = line-fields _ (c .before .before .before .pre) (c .before .field-start .ensures .is) (search needs) p
+some-field c p q = line-shaped _ (c .before .before .before .pre) (c .before .field-start .ensures .is) (search needs) p q
 
 returns : tie.Need-returns
 returns c = line-blank _ (c .before .before .before .pre) (c .before .field-start .ensures .is) (c .if1 .taken)
@@ -85,44 +87,43 @@ read-as-requires-7 : tie.Need-read-as-requires-7
 read-as-requires-7 c κs = search needs
 
 returns-2 : tie.Need-returns-2
-unfolding fieldsSay
-returns-2 c = some (c .before .before .before) (rw (c .before .enum-told .given .1) (c .header-line .ensures))
+returns-2 c = rw (c .before .enum-told .given .1) (c .header-line .ensures)
 
 returns-3 : tie.Need-returns-3
-unfolding fieldsSay readAs shapeOf records recordShape
-returns-3 c = some (c .before .before .before) (rw (c .before .enum-told2 .given .1) (c .read-as .ensures))
+unfolding shapeFor shapeOf records
+returns-3 c = some-field (c .before .before .before) (c .read-as .ensures) (rw (c .before .enum-told2 .given .1))
 
 returns-4 : tie.Need-returns-4
-unfolding fieldsSay readAs shapeOf records recordShape
-returns-4 c = some (c .before .before .before) (rw (c .before .enum-told3 .given .1) (c .read-as2 .ensures))
+unfolding shapeFor shapeOf records
+returns-4 c = some-field (c .before .before .before) (c .read-as2 .ensures) (rw (c .before .enum-told3 .given .1))
 
 returns-5 : tie.Need-returns-5
-unfolding fieldsSay
-returns-5 c = some (c .before .before .before) (rw (c .before .enum-told4 .given .1) (c .code-line .ensures))
+unfolding shapeFor
+returns-5 c = some-field (c .before .before .before) (c .code-line .ensures) (rw (c .before .enum-told4 .given .1))
 
 returns-6 : tie.Need-returns-6
-unfolding fieldsSay
-returns-6 c = some (c .before .before .before) (rw (c .before .enum-told5 .given .1) (c .entry-line .ensures))
+unfolding shapeFor
+returns-6 c = some-field (c .before .before .before) (c .entry-line .ensures) (rw (c .before .enum-told5 .given .1))
 
 returns-7 : tie.Need-returns-7
-unfolding fieldsSay readAs shapeOf records recordShape
-returns-7 c = some (c .before .before .before) (rw (c .before .enum-told6 .given .1) (c .read-as3 .ensures))
+unfolding shapeFor shapeOf records
+returns-7 c = some-field (c .before .before .before) (c .read-as3 .ensures) (rw (c .before .enum-told6 .given .1))
 
 returns-8 : tie.Need-returns-8
-unfolding fieldsSay readAs shapeOf records recordShape
-returns-8 c = some (c .before .before .before) (rw (c .before .enum-told7 .given .1) (c .read-as4 .ensures))
+unfolding shapeFor shapeOf records
+returns-8 c = some-field (c .before .before .before) (c .read-as4 .ensures) (rw (c .before .enum-told7 .given .1))
 
 returns-9 : tie.Need-returns-9
-unfolding fieldsSay readAs shapeOf records recordShape
-returns-9 c = some (c .before .before .before) (rw (c .before .enum-told8 .given .1) (c .read-as5 .ensures))
+unfolding shapeFor shapeOf records
+returns-9 c = some-field (c .before .before .before) (c .read-as5 .ensures) (rw (c .before .enum-told8 .given .1))
 
 returns-10 : tie.Need-returns-10
-unfolding fieldsSay readAs shapeOf records recordShape
-returns-10 c = some (c .before .before .before) (rw (c .before .enum-told9 .given .1) (c .read-as6 .ensures))
+unfolding shapeFor shapeOf records
+returns-10 c = some-field (c .before .before .before) (c .read-as6 .ensures) (rw (c .before .enum-told9 .given .1))
 
 returns-11 : tie.Need-returns-11
-unfolding fieldsSay readAs shapeOf records recordShape
-returns-11 c = some (c .before .before .before) (rw (c .before .enum-told10 .given .1) (c .read-as7 .ensures))
+unfolding shapeFor shapeOf records
+returns-11 c = some-field (c .before .before .before) (c .read-as7 .ensures) (rw (c .before .enum-told10 .given .1))
 
 pub fields-say-spec : {M : Type 1} → statement M
 fields-say-spec =

@@ -8,6 +8,9 @@ use Rattle.steps.proofs.lines.step_of.Tie as tie
 enum-known-answer : tie.Need-enum-known-answer
 enum-known-answer c = search needs
 
+bad-line-requires : tie.Need-bad-line-requires
+bad-line-requires c κs = search needs
+
 enum-told : tie.Need-enum-told
 enum-told c = search needs
 
@@ -67,7 +70,7 @@ sub-step-requires c κs = search needs
 
 returns : tie.Need-returns
 unfolding stepOf
-returns c = rw (c .before .answer .given .1)
+returns c = rw (c .before .before .answer .given .1) (c .bad-line .ensures)
 
 returns-2 : tie.Need-returns-2
 unfolding stepOf
@@ -114,6 +117,7 @@ step-of-spec =
     tie.close
     (tie.spec
     enum-known-answer
+    bad-line-requires
     enum-told
     enum-known-answer-2
     header-step-requires
