@@ -29,8 +29,10 @@ fn lend_state(cells: &mut [u64], size: usize, work: &mut [u64], file: &[u8]) -> 
     lend_work(&mut cells[..size], work, WORK_CELLS, file)
 }
 
-fn tell_answer(number_of_answer: u64, line: u64, rounds: u64) {
+fn tell_answer(number_of_answer: u64, line: u64, column: u64, rounds: u64) {
     answer(b"LOAD", number_of_answer, line);
+    say(b", column ");
+    number(column);
     say(b", rounds ");
     number(rounds);
 }
@@ -40,7 +42,7 @@ pub fn load(state: &mut [u64; STATE_CELLS], size: usize, file: &[u8]) {
     let before = *state;
     let mut work = [5u64; MORE_CELLS];
     let a = lend_work(state, &mut work, size, file);
-    tell_answer(a.number, a.line, a.rounds);
+    tell_answer(a.number, a.line, a.column, a.rounds);
     tell_work(&work, size);
     tell_state(&before, state);
 }
@@ -59,7 +61,7 @@ pub fn load_into(size: usize, file: &[u8]) {
     let mut cells = [0u64; MORE_CELLS];
     let mut work = [5u64; MORE_CELLS];
     let a = lend_state(&mut cells, size, &mut work, file);
-    tell_answer(a.number, a.line, a.rounds);
+    tell_answer(a.number, a.line, a.column, a.rounds);
     tell_work(&work, WORK_CELLS);
     if are_zero(&cells) {
         say(b"; state same\n");
