@@ -9,12 +9,25 @@ use crate::listing::tell_end;
 use crate::page::front;
 use crate::page::put_high;
 use crate::page::say;
+use crate::refusals::load_refused;
 use crate::refusals::refused;
-use crate::refusals::refused_at;
 use crate::refusals::tell;
 use rules::answer::DONE;
+use rules::answer::LoadAnswer;
 use text::numbers::Number;
 use text::numbers::read_number;
+
+// What a load came to.
+fn tell_load(state: &[u64], room: &mut [u8], a: LoadAnswer) {
+    if a.number != DONE {
+        load_refused(room, a);
+        return;
+    }
+    let u = linker::lnk100_undefined(state, 0);
+    if u.none == 1 {
+        say(b"LOAD COMPLETE\n");
+    }
+}
 
 fn load_file(state: &mut [u64], work: &mut [u64], room: &mut [u8], path: &[u8]) {
     let r = read_file(path, room);
@@ -23,14 +36,7 @@ fn load_file(state: &mut [u64], work: &mut [u64], room: &mut [u8], path: &[u8]) 
         return;
     }
     let a = linker::lnk100_load(state, work, front(room, r.length));
-    if a.number != DONE {
-        refused_at(room, a.number, a.line, a.column);
-        return;
-    }
-    let u = linker::lnk100_undefined(state, 0);
-    if u.none == 1 {
-        say(b"LOAD COMPLETE\n");
-    }
+    tell_load(state, room, a);
 }
 
 fn force(state: &mut [u64], room: &mut [u8], name: &[u8]) {

@@ -6,12 +6,22 @@ use crate::page::put_text;
 use crate::page::say;
 use answers::answer_name;
 use rules::answer::DONE;
+use rules::answer::LoadAnswer;
 use rules::answer::RESET;
 
 fn put_answer(page: &mut [u8], at: usize, number: u64) -> usize {
     let n = answer_name(number);
     let bytes = n.bytes;
     put_text(page, at, front(&bytes, n.length))
+}
+
+fn put_refusal(page: &mut [u8], number: u64, line: u64) -> usize {
+    let mut end = put_text(page, 0, b"F ");
+    end = put_answer(page, end, number);
+    end = put(page, end, b' ');
+    end = put_number(page, end, number);
+    end = put_text(page, end, b" LINE ");
+    put_number(page, end, line)
 }
 
 // A column of 0 is none, and is not told.
@@ -23,24 +33,23 @@ fn put_column(page: &mut [u8], at: usize, column: u64) -> usize {
     put_number(page, end, column)
 }
 
-pub fn refused_at(page: &mut [u8], number: u64, line: u64, column: u64) {
+fn tell_at(page: &mut [u8], number: u64, line: u64, column: u64) {
     if number == RESET {
         say(b"RESET!!!\n");
     }
-    let mut end = put_text(page, 0, b"F ");
-    end = put_answer(page, end, number);
-    end = put(page, end, b' ');
-    end = put_number(page, end, number);
-    end = put_text(page, end, b" LINE ");
-    end = put_number(page, end, line);
+    let mut end = put_refusal(page, number, line);
     end = put_column(page, end, column);
     end = put(page, end, b'\n');
     say(front(page, end));
 }
 
-// The answer of a call that names no column.
+// A load alone names a column.
+pub fn load_refused(page: &mut [u8], a: LoadAnswer) {
+    tell_at(page, a.number, a.line, a.column);
+}
+
 pub fn refused(page: &mut [u8], number: u64, line: u64) {
-    refused_at(page, number, line, 0);
+    tell_at(page, number, line, 0);
 }
 
 // Nothing where the call was done.
