@@ -7,7 +7,7 @@ use mathlib.Core.Bool.{Bool, true, false, cond, _&&_, _||_}
 use mathlib.Core.List.{List, [], _∷_, _++_, append-nil}
 use mathlib.Core.Option.{Option, none, some}
 use mathlib.Core.Path.{_≡_, refl, sym, ap, ap₂, subst, _∙_}
-use lib.ListN.{length, getD}
+use lib.ListN.{length}
 use lib.Dec.{eqb, leb, ltb}
 use borrow.Author.Tests.{leb-true, leb-false, lt-leb, le-leb, ltb-true, ltb-false, eqb-true, eq-eqb}
 use Rattle.rules.specs.Text.{Field, startsField, widenField, addToFields, fieldsFrom, fieldsOf, isLegal, legalFront}
@@ -130,9 +130,13 @@ leftmost-tells (f ∷ fs) = go (leftmost fs) (leftmost-tells fs)
           first = (before-same f, every-weaken (Before g) (Before f) (λ h. before-trans (not-ahead f g a)) fs (l .first));
         })
 
--- a kind, by its rank
+-- a kind, by its rank, for no two have the same
 kindOf : ℕ → FaultKind
-kindOf n = getD (IllegalByte ∷ BadMarker ∷ FieldCount ∷ BadNumber ∷ BadName ∷ BadType ∷ []) n BadType
+kindOf n =
+    cond (eqb n (rank IllegalByte)) IllegalByte
+    (cond (eqb n (rank BadMarker)) BadMarker
+    (cond (eqb n (rank FieldCount)) FieldCount
+    (cond (eqb n (rank BadNumber)) BadNumber (cond (eqb n (rank BadName)) BadName BadType))))
 
 kind-of-rank : (k : FaultKind) → kindOf (rank k) ≡ k
 unfolding kindOf rank
