@@ -19,18 +19,26 @@ pub enum Reason {
     Table = 14,
     Name = 15,
     Out = 16,
+    // Request 3/14 parts these from 6: faults of a line, told with a column.
+    Fields = 17,
+    Number = 18,
+    Symbol = 19,
+    Marker = 20,
+    Type = 21,
 }
 
-/// A refused call: the reason, and the line of the file that it is told at (0 where none is named).
+/// A refused call: the reason, and the line and the column of the file that it is told at (0 where none is named).
 #[derive(Clone, Copy, Debug, PartialEq, Eq)]
 pub struct Refusal {
     pub reason: Reason,
+    /// Short, so that a result with a refusal in it is no larger than it was without a column: every line read makes one.
+    pub column: u32,
     pub line: u64,
 }
 
 impl Refusal {
     pub fn at(reason: Reason, line: u64) -> Refusal {
-        Refusal { reason, line }
+        Refusal { reason, line, column: 0 }
     }
 
     pub fn number(self) -> u64 {
@@ -39,7 +47,8 @@ impl Refusal {
 
     /// Whether a LOAD refused like this was refused for what is in its file, and so sets the broken mark.
     pub fn breaks(self) -> bool {
-        (Reason::Line as u64..=Reason::Table as u64).contains(&self.number())
+        let number = self.number();
+        (Reason::Line as u64..=Reason::Table as u64).contains(&number) || number >= Reason::Fields as u64
     }
 }
 

@@ -1,11 +1,13 @@
 //! The public calls on lent memory, as the C interface has them.
 
-/// An answer of LOAD. In every answer a refusal has 0 in each field but `number` and `line`.
+/// An answer of LOAD. In every answer a refusal has 0 in each field but `number`, `line` and LOAD's `column`.
 #[repr(C)]
 #[derive(Clone, Copy, Debug, Default, PartialEq, Eq)]
 pub struct LoadAnswer {
     pub number: u64,
     pub line: u64,
+    /// From 1 with the faults of a line, 6 and 17 to 21.
+    pub column: u64,
     pub rounds: u64,
 }
 

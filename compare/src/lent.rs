@@ -18,7 +18,9 @@ impl Calls for Lent {
         }
         match outcome {
             Ok(rounds) => LoadAnswer { rounds, ..LoadAnswer::default() },
-            Err(refusal) => LoadAnswer { number: refusal.number(), line: refusal.line, rounds: 0 },
+            Err(refusal) => {
+                LoadAnswer { number: refusal.number(), line: refusal.line, column: refusal.column.into(), rounds: 0 }
+            }
         }
     }
 

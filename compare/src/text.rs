@@ -2,7 +2,7 @@
 
 use crate::name::Name;
 
-const LONGEST_LINE: usize = 80;
+pub const LONGEST_LINE: usize = 80;
 const MOST_DIGITS: usize = 6;
 
 /// The lines of a file without their ends. One CR just before an LF belongs to the end; a last line without LF keeps it.
@@ -15,7 +15,11 @@ pub fn lines(file: &[u8]) -> impl Iterator<Item = &[u8]> {
 
 /// Whether a line has a legal length and legal bytes alone.
 pub fn is_legal(line: &[u8]) -> bool {
-    line.len() <= LONGEST_LINE && line.iter().all(|b| (b' '..=b'~').contains(b))
+    line.len() <= LONGEST_LINE && line.iter().all(|&b| is_legal_byte(b))
+}
+
+pub fn is_legal_byte(byte: u8) -> bool {
+    (b' '..=b'~').contains(&byte)
 }
 
 pub fn is_blank(line: &[u8]) -> bool {
@@ -34,7 +38,7 @@ pub fn number(field: &[u8]) -> Option<u16> {
     u16::try_from(value).ok()
 }
 
-/// The fields of one line, taken from the left. `None` from any of the readers is a fault of the line.
+/// The fields of one line, taken from the left. `None` from any of the readers is a fault of the line; `fault` says which.
 #[derive(Clone)]
 pub struct Fields<'a> {
     rest: &'a [u8],

@@ -1,4 +1,5 @@
-//! The runs P1 to P10 of document 01, and its slips that lie close at hand.
+//! The runs P1 to P10 of document 01, of which request 3/14 reads P6 and P10 as 18, and the paper's slips that lie close at
+//! hand.
 
 mod common;
 use common::*;
@@ -61,8 +62,8 @@ fn p5_the_empty_file() {
 fn p6_numbers() {
     let file = |quarter: &str| module("A", &format!("0 1 0 ***CODE\n0 0 0 {quarter}\n"));
     assert_eq!(load(&file("177777")), Ok(0));
-    assert_eq!(load(&file("200000")), refused(Reason::Line, 4));
-    assert_eq!(load(&file("8")), refused(Reason::Line, 4));
+    assert_eq!(load(&file("200000")), bad(Reason::Number, 4, 7));
+    assert_eq!(load(&file("8")), bad(Reason::Number, 4, 7));
 }
 
 #[test]
@@ -103,7 +104,7 @@ fn p10_sub_records_of_an_fpb_record() {
     let three = module("A", "12 1 ***FPB\n1 1 3\n1 1\n1 1\n1 1\n");
     assert_eq!(load(&three), Ok(0));
     let two = module("A", "12 1 ***FPB\n1 1 3\n1 1\n1 1\n");
-    assert_eq!(load(&two), refused(Reason::Line, 7));
+    assert_eq!(load(&two), bad(Reason::Number, 7, 3));
 }
 
 #[test]

@@ -4,6 +4,7 @@ use compare::answer::{Reason, Refusal};
 use compare::calls::*;
 use compare::differ::case::{self, Origin};
 use compare::differ::coverage::Column::*;
+use compare::differ::coverage::ANSWERS;
 use compare::differ::rng::Rng;
 use compare::differ::run::{run, Options};
 use compare::lent::Lent;
@@ -23,20 +24,28 @@ fn the_linker_agrees_with_itself() {
     // The cases at the limits have every answer of every call, before any random one.
     let columns = [Force, Base, Reset, Memory, Symbols, Undefined, End];
     for column in columns.into_iter().chain([Load(Origin::Given)]) {
-        for number in (0..17).filter(|&number| column.can_give(number as u64)) {
+        for number in (0..ANSWERS).filter(|&number| column.can_give(number as u64)) {
             assert!(summary.limits.coverage.count(column, number) > 0, "{column:?} was never answered {number}");
         }
     }
-    // They have looked for names at every place of a long table too, and in sections of one remainder.
+    // They have every fault of a line at every place, and have looked for names at every place of a long table and in sections
+    // of one remainder.
+    assert_eq!(summary.limits.coverage.faults.missing(), Vec::<String>::new());
     assert_eq!(summary.limits.coverage.lookups.missing(), Vec::<String>::new());
 }
 
-/// A run that did not look for names at every place says which it missed.
+/// A run that did not meet every fault of a line, or look for names at every place, says which it missed.
 #[test]
-fn missing_lookups_are_told() {
+fn what_a_run_missed_is_told() {
     let summary = run(&Lent, &options(0, false)).unwrap_or_else(|found| panic!("{found:?}"));
     let missing = summary.random.coverage.missing();
     for what in [
+        "answer 17 of damaged",
+        "answer 21 of odd",
+        "a fault 18: FPB record",
+        "a fault 20: the first field",
+        "a fault 17: 6 at its column too",
+        "a fault: 81 for length, a fault behind it",
         "external: lowest of a long table",
         "entry, 13: highest of a long table",
         "entry, 14: between of a long table",
@@ -45,7 +54,9 @@ fn missing_lookups_are_told() {
     ] {
         assert!(missing.iter().any(|each| each == what), "{what}");
     }
-    assert!(!missing.iter().any(|each| each == "entry, 13: below of a long table"));
+    for what in ["entry, 13: below of a long table", "a fault 21: the first field", "answer 17 of whole"] {
+        assert!(!missing.iter().any(|each| each == what), "{what}");
+    }
 }
 
 #[test]
@@ -72,6 +83,10 @@ enum Mutant {
     WorkNotClearedOnRefusal,
     WorkOfWrongLengthCleared,
     LineOffByOne,
+    LineForEveryFault,
+    ColumnFromZero,
+    ColumnWithPlace,
+    BrokenMarkForNoType,
     EndFreezesOnRefusal,
     EndClearsTheRest,
     ForceAddsAnotherName,
@@ -83,7 +98,7 @@ enum Mutant {
 }
 
 impl Mutant {
-    const ALL: [Mutant; 21] = [
+    const ALL: [Mutant; 25] = [
         Mutant::AbsoluteEntriesMoved,
         Mutant::SearchedOnce,
         Mutant::AllTaken,
@@ -97,6 +112,10 @@ impl Mutant {
         Mutant::WorkNotClearedOnRefusal,
         Mutant::WorkOfWrongLengthCleared,
         Mutant::LineOffByOne,
+        Mutant::LineForEveryFault,
+        Mutant::ColumnFromZero,
+        Mutant::ColumnWithPlace,
+        Mutant::BrokenMarkForNoType,
         Mutant::EndFreezesOnRefusal,
         Mutant::EndClearsTheRest,
         Mutant::ForceAddsAnotherName,
@@ -178,13 +197,17 @@ impl Calls for Mutant {
     fn load(&self, state: &mut [u64], work: &mut [u64], file: &[u8]) -> LoadAnswer {
         let (before, work_before) = (state.to_vec(), work.to_vec());
         let mut answer = Lent.load(state, work, file);
-        let breaks = (6..=14).contains(&answer.number);
+        let breaks = matches!(answer.number, 6..=14 | 17..=21);
         match self {
             Mutant::BrokenMarkForgotten if breaks => state[MARK] = before[MARK],
             Mutant::BrokenMarkForTooLong if answer.number == Reason::TooLong as u64 => state[MARK] = BROKEN,
             Mutant::WorkNotClearedOnRefusal if answer.number == 9 => work.copy_from_slice(&work_before),
             Mutant::WorkOfWrongLengthCleared if answer.number == 1 => work.fill(0),
             Mutant::LineOffByOne if answer.number == 7 => answer.line -= 1,
+            Mutant::LineForEveryFault if answer.number >= 17 => answer.number = 6,
+            Mutant::ColumnFromZero if answer.column > 0 => answer.column -= 1,
+            Mutant::ColumnWithPlace if answer.number == 7 => answer.column = 1,
+            Mutant::BrokenMarkForNoType if answer.number == 21 => state[MARK] = before[MARK],
             _ => {}
         }
         // The rest of the errors lie in the walk.
@@ -195,14 +218,14 @@ impl Calls for Mutant {
         match self.walk(&mut linker, items) {
             Ok(rounds) => {
                 memory::encode(&linker, state);
-                LoadAnswer { number: 0, line: 0, rounds }
+                LoadAnswer { rounds, ..LoadAnswer::default() }
             }
             Err(refusal) => {
                 if let Mutant::SymbolsLeftBehindARefusal = self {
                     memory::encode(&linker, state);
                     state[MARK] = BROKEN;
                 }
-                LoadAnswer { number: refusal.number(), line: refusal.line, rounds: 0 }
+                LoadAnswer { number: refusal.number(), line: refusal.line, ..LoadAnswer::default() }
             }
         }
     }

@@ -1,4 +1,4 @@
-//! The requests of document 02. 1/14: HIGH is the highest address that holds a placed word, and 65,535 where none is placed.
+//! The requests of document 02. 3/14 is in `faults.rs`. 1/14: HIGH is the highest address that holds a placed word, and 65,535 where none is placed.
 
 mod common;
 use common::*;

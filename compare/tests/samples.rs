@@ -56,7 +56,8 @@ ADCSFT
 
 #[test]
 fn vcadd_as_printed() {
-    assert_eq!(load(VCADD), refused(Reason::Line, 4));
+    // entry type 2, with the figure's spacing
+    assert_eq!(load(VCADD), bad(Reason::Type, 4, 19));
 }
 
 #[test]
@@ -80,12 +81,12 @@ fn vcadd_as_mended() {
 
 #[test]
 fn adcsft_as_printed() {
-    assert_eq!(load(ADCSFT), refused(Reason::Line, 3));
+    assert_eq!(load(ADCSFT), bad(Reason::Marker, 3, 6));
 }
 
 #[test]
 fn adcsft_half_mended() {
-    assert_eq!(load(&ADCSFT.replace("***PB", "***FPB")), refused(Reason::Line, 24));
+    assert_eq!(load(&ADCSFT.replace("***PB", "***FPB")), bad(Reason::Fields, 24, 9));
 }
 
 #[test]
@@ -95,5 +96,5 @@ fn adcsft_as_mended() {
     assert_eq!(symbols(&linker), [("ADCSFT".to_string(), Some(0))]);
     assert_eq!(linker.high(), 14);
     assert_eq!(image(&linker).len(), 170);
-    assert_eq!(load(&mended.replace("LOCAL", ".LOCAL")), refused(Reason::Line, 5));
+    assert_eq!(load(&mended.replace("LOCAL", ".LOCAL")), bad(Reason::Symbol, 5, 6));
 }

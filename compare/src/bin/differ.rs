@@ -4,8 +4,8 @@
 //!     differ --limits
 //!
 //! A failure names its case; `differ 1 SEED --first N --no-limits` plays that one alone. With `--reach-all` it is a failure
-//! too if the random cases miss an answer or a number of rounds. `--limits` lists the cases at the limits and what document
-//! 01 answers them with.
+//! too if the random cases miss an answer, a fault of a line or a number of rounds. `--limits` lists the cases at the limits and
+//! what the papers answer them with.
 
 use std::process::ExitCode;
 use std::time::{Duration, Instant};
@@ -80,8 +80,12 @@ fn list_limits() {
     for case in limits::all() {
         println!("{}", case.label);
         for step in case.steps {
-            if let Some((number, line)) = step.expected {
-                println!("    {:?}: {number} at line {line}", step.call);
+            match step.expected {
+                Some((number, line, 0)) => println!("    {:?}: {number} at line {line}", step.call),
+                Some((number, line, column)) => {
+                    println!("    {:?}: {number} at line {line}, column {column}", step.call);
+                }
+                None => {}
             }
         }
     }

@@ -23,8 +23,8 @@ pub struct Step {
     pub call: Call,
     /// How many cells of state memory are lent; another number than the fixed one is cut or filled up for this call.
     pub state_cells: usize,
-    /// The number and line of the answer where the paper gives them, whatever the implementations say.
-    pub expected: Option<(u64, u64)>,
+    /// The number, line and column of the answer where the paper gives them, whatever the implementations say.
+    pub expected: Option<(u64, u64, u64)>,
     /// The same of a load's rounds.
     pub rounds: Option<u64>,
     /// The same of HIGH, in MEMORY's answer or in the END record.
@@ -152,11 +152,11 @@ fn random_call(author: &mut Author, rng: &mut Rng) -> (Call, usize) {
     let load =
         |file: Vec<u8>, origin, rng: &mut Rng| Call::Load { file, work_cells: random_length(rng, WORK_CELLS), origin };
     let call = match rng.below(100) {
-        0..35 => return (load(author.file(rng).laid_out(rng), Origin::Whole, rng), 10),
-        35..50 => return (load(damaged(&author.file(rng), rng), Origin::Damaged, rng), 85),
-        50..52 => return (load(odd_file(rng), Origin::Odd, rng), 50),
-        52..66 => Call::Force(random_forced(author, rng)),
-        66..74 => Call::Base(random_base(rng)),
+        0..34 => return (load(author.file(rng).laid_out(rng), Origin::Whole, rng), 10),
+        34..52 => return (load(damaged(&author.file(rng), rng), Origin::Damaged, rng), 85),
+        52..55 => return (load(odd_file(rng), Origin::Odd, rng), 50),
+        55..67 => Call::Force(random_forced(author, rng)),
+        67..74 => Call::Base(random_base(rng)),
         74..76 => Call::Reset,
         76..80 => Call::Memory,
         80..86 => Call::Symbols(random_index(rng)),

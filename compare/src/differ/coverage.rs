@@ -1,10 +1,11 @@
-//! What a run reached: how often each call gave each answer, how many rounds the accepted loads had, where HIGH stood, and
-//! which names were looked for.
-//! Document 01 says which answers a call can give at all; a run that is meant to reach them all names those that it missed.
+//! What a run reached: how often each call gave each answer, which faults of lines were told, how many rounds the accepted
+//! loads had, where HIGH stood, and which names were looked for.
+//! Document 01, with request 3/14, says which answers a call can give at all; a run that is meant to reach them all names those that it missed.
 
 use std::fmt;
 
 use super::case::{Call, Origin};
+use super::faults::Faults;
 use super::lookups::Lookups;
 use crate::linker::NO_ADDRESS;
 
@@ -23,7 +24,8 @@ pub enum Column {
 
 use Column::*;
 
-const ANSWERS: usize = 17;
+/// The answers have the numbers below this one.
+pub const ANSWERS: usize = 22;
 
 const COLUMNS: [(Column, &str); 11] = [
     (Load(Origin::Given), "given"),
@@ -55,11 +57,11 @@ impl Column {
         })
     }
 
-    /// Whether document 01 has the answer for the call. A whole file has no malformed line and no misplaced block.
+    /// Whether the papers have the answer for the call. A whole file has no malformed line and no misplaced block.
     pub fn can_give(self, number: u64) -> bool {
         match self {
             Load(Origin::Whole) => matches!(number, 0..=5 | 8..=14),
-            Load(_) => number <= 14,
+            Load(_) => matches!(number, 0..=14 | 17..=21),
             Force => matches!(number, 0..=4 | 14 | 15),
             Base => matches!(number, 0..=4 | 12),
             Reset => matches!(number, 0..=1),
@@ -72,7 +74,7 @@ impl Column {
     fn must_give(self, number: u64) -> bool {
         match self {
             Load(Origin::Given) => false,
-            Load(Origin::Odd) => number <= 7,
+            Load(Origin::Odd) => matches!(number, 0..=7 | 17..=21),
             _ => self.can_give(number),
         }
     }
@@ -95,6 +97,7 @@ pub struct Coverage {
     past_end: [u64; 2],
     /// HIGH of MEMORY and of END, where it parts from the next address less one.
     highs: [[u64; HIGHS.len()]; 2],
+    pub faults: Faults,
     pub lookups: Lookups,
 }
 
@@ -166,6 +169,7 @@ impl Coverage {
                 missing.push(format!("HIGH of {name} apart from the next address: {kind}"));
             }
         }
+        missing.extend(self.faults.missing());
         missing.extend(self.lookups.missing());
         missing
     }
@@ -180,7 +184,7 @@ fn shown(first: u64, last: u64) -> String {
 }
 
 impl fmt::Display for Coverage {
-    /// The tables. A `-` is an answer that document 01 does not have for the call, or a name that cannot stand there.
+    /// The tables. A `-` is an answer that the papers do not have for the call, or a fault or a name that cannot stand there.
     fn fmt(&self, f: &mut fmt::Formatter<'_>) -> fmt::Result {
         let shown_columns: Vec<usize> =
             (0..COLUMNS.len()).filter(|&at| self.answers[at].iter().any(|&count| count > 0)).collect();
@@ -211,6 +215,7 @@ impl fmt::Display for Coverage {
             "HIGH apart from the next address less one ({}): MEMORY {memory:?}, END {end:?}",
             HIGHS.join(", ")
         )?;
+        writeln!(f, "{}", self.faults)?;
         self.lookups.fmt(f)
     }
 }

@@ -1,10 +1,11 @@
-//! Damages files: lines, fields and counts of a draft, then bytes.
+//! Damages files: lines, fields and counts of a draft, then bytes; or one line alone.
 
 use super::draft::Draft;
+use super::line_damage::damage_a_line;
 use super::rng::Rng;
 
 /// Fields that lie close to legal ones.
-const ODD_FIELDS: &[&str] = &[
+pub const ODD_FIELDS: &[&str] = &[
     "0",
     "1",
     "2",
@@ -84,6 +85,10 @@ const ODD_LINES: &[&str] = &[
     "1 2 3 4",
     "* 1 2 3 4 0 5 1",
     "* 1 2 3 4 0 3 1",
+    "* 1 2 3 4 0 6 1",
+    "* 1 2 3 4 1 5 1",
+    "A 0 2",
+    "B 0 2 0",
     "1 1",
     "1 1 1",
     "a b c d e",
@@ -95,6 +100,11 @@ const ODD_BYTES: &[u8] =
 /// A damaged file. The damage may still leave a file that loads.
 pub fn damaged(draft: &Draft, rng: &mut Rng) -> Vec<u8> {
     let mut draft = draft.clone();
+    if rng.percent(40) {
+        let mut file = draft.laid_out(rng);
+        damage_a_line(&mut file, rng);
+        return file;
+    }
     if rng.percent(70) {
         (0..*rng.pick(&[1, 1, 1, 2, 3])).for_each(|_| damage_draft(&mut draft, rng));
     }
@@ -105,9 +115,14 @@ pub fn damaged(draft: &Draft, rng: &mut Rng) -> Vec<u8> {
     file
 }
 
-/// Lines of all kinds in no order.
+/// Lines of all kinds in no order, often behind a title and a header, for else hardly any is read as a record.
 pub fn odd_lines(rng: &mut Rng) -> Draft {
     let mut draft = Draft::default();
+    if rng.percent(60) {
+        draft.line("3 ***TITLE");
+        draft.line("A");
+        draft.line(*rng.pick(&["4 1 ***ENTRY", "0 1 0 ***CODE", "12 1 ***FPB", "6 ***LSB"]));
+    }
     (0..rng.within(1..=8)).for_each(|_| draft.line(*rng.pick(ODD_LINES)));
     draft
 }

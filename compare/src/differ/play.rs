@@ -5,6 +5,7 @@ use std::fmt;
 use super::case::{Call, Case, Index, Room, Step};
 use super::coverage::{Column, Coverage};
 use super::rng::Rng;
+use super::told;
 use crate::calls::{CallAnswer, Calls, EndAnswer, LoadAnswer, MemoryAnswer, SymbolAnswer, UndefinedAnswer};
 use crate::lent::Lent;
 use crate::linker::{MOST_SYMBOLS, PROGRAM_WORDS};
@@ -43,19 +44,27 @@ enum Answer {
 }
 
 impl Answer {
-    /// The number, the line, and whether every other field is 0.
-    fn parts(self) -> (u64, u64, bool) {
+    /// The number, the line and the column, which LOAD alone has.
+    fn parts(self) -> (u64, u64, u64) {
         match self {
-            Answer::Load(a) => (a.number, a.line, a.rounds == 0),
-            Answer::Call(a) => (a.number, a.line, true),
-            Answer::Memory(a) => (a.number, a.line, a.high == 0),
-            Answer::Symbol(a) => {
-                (a.number, a.line, a == SymbolAnswer { number: a.number, line: a.line, ..Default::default() })
-            }
-            Answer::Undefined(a) => {
-                (a.number, a.line, a == UndefinedAnswer { number: a.number, line: a.line, ..Default::default() })
-            }
-            Answer::End(a) => (a.number, a.line, a.length == 0),
+            Answer::Load(a) => (a.number, a.line, a.column),
+            Answer::Call(a) => (a.number, a.line, 0),
+            Answer::Memory(a) => (a.number, a.line, 0),
+            Answer::Symbol(a) => (a.number, a.line, 0),
+            Answer::Undefined(a) => (a.number, a.line, 0),
+            Answer::End(a) => (a.number, a.line, 0),
+        }
+    }
+
+    /// Whether every other field is 0.
+    fn rest_is_zero(self) -> bool {
+        match self {
+            Answer::Load(a) => a.rounds == 0,
+            Answer::Call(_) => true,
+            Answer::Memory(a) => a.high == 0,
+            Answer::Symbol(a) => a == SymbolAnswer { number: a.number, line: a.line, ..Default::default() },
+            Answer::Undefined(a) => a == UndefinedAnswer { number: a.number, line: a.line, ..Default::default() },
+            Answer::End(a) => a.length == 0,
         }
     }
 }
@@ -240,7 +249,7 @@ impl<'a> Player<'a> {
             return Err(format!("answered {answer:?}, the Rust linker {expected:?}"));
         }
         noted?;
-        self.note_names(&step.call, answer, &before);
+        self.note_file(&step.call, answer, &before);
         self.check_paper(step, answer)?;
         if bytes != step.call.bytes() {
             return Err("wrote into the bytes that were lent for reading".into());
@@ -251,9 +260,9 @@ impl<'a> Player<'a> {
 
     /// What the paper says of this very step, where it is given.
     fn check_paper(&self, step: &Step, answer: Answer) -> Result<(), String> {
-        let (number, line, _) = answer.parts();
-        if step.expected.is_some_and(|expected| expected != (number, line)) {
-            return Err(format!("both answered {number} at line {line}, the paper says {:?}", step.expected));
+        let parts = answer.parts();
+        if let Some(expected) = step.expected.filter(|&expected| expected != parts) {
+            return Err(format!("both answered (number, line, column) {parts:?}, the paper says {expected:?}"));
         }
         if let (Some(rounds), Answer::Load(load)) = (step.rounds, answer) {
             if load.rounds != rounds {
@@ -349,10 +358,11 @@ impl<'a> Player<'a> {
         Ok(())
     }
 
-    /// Counts the rounds of a load, and the names that a load or FORCE has looked for.
-    fn note_names(&mut self, call: &Call, answer: Answer, before: &[u64]) {
+    /// Counts the fault of a line that a load told, or its rounds, and the names that a load or FORCE has looked for.
+    fn note_file(&mut self, call: &Call, answer: Answer, before: &[u64]) {
         match answer {
-            Answer::Load(LoadAnswer { number: number @ (0 | 9..=14), line, rounds }) => {
+            Answer::Load(LoadAnswer { number: 6 | 17..=21, .. }) => self.coverage.faults.note(call.bytes()),
+            Answer::Load(LoadAnswer { number: number @ (0 | 9..=14), line, rounds, .. }) => {
                 let Ok(items) = reader::read(call.bytes()) else { return };
                 if number == 0 {
                     let sections = items.iter().filter(|item| matches!(item, Item::Section(_))).count();
@@ -382,6 +392,20 @@ impl<'a> Player<'a> {
         Ok(())
     }
 
+    /// A refusal has zeros in its answer, and changes nothing but the broken mark, which a load sets that was refused for its
+    /// file.
+    fn check_refusal(&self, answer: Answer, before: &[u64], out: &[u8]) -> Result<(), String> {
+        if !answer.rest_is_zero() {
+            return Err(format!("a refused answer has more than a number, a line and a column: {answer:?}"));
+        }
+        let mut kept = before.to_vec();
+        if let Answer::Load(LoadAnswer { number: 6..=14 | 17..=21, .. }) = answer {
+            kept[MARK] = BROKEN;
+        }
+        same("after a refusal, state cell", self.subject.state.view(), &kept)?;
+        same("after a refusal, output byte", self.subject.out.view(), out)
+    }
+
     /// What must hold of the subject whatever the Rust linker says.
     fn check_promises(
         &self,
@@ -391,19 +415,14 @@ impl<'a> Player<'a> {
         work: Option<&[u64]>,
         out: &[u8],
     ) -> Result<(), String> {
-        let (number, _, rest_is_zero) = answer.parts();
+        let (number, _, _) = answer.parts();
         let after = self.subject.state.view();
         let refused = number != 0;
-        if refused && !rest_is_zero {
-            return Err(format!("a refused answer has more than a number and a line: {answer:?}"));
+        if let (ResolvedCall::Load(file), Answer::Load(load)) = (call, answer) {
+            told::check(file, load)?;
         }
         if refused {
-            let mut kept = before.to_vec();
-            if matches!(call, ResolvedCall::Load(_)) && (6..=14).contains(&number) {
-                kept[MARK] = BROKEN;
-            }
-            same("after a refusal, state cell", after, &kept)?;
-            same("after a refusal, output byte", self.subject.out.view(), out)?;
+            self.check_refusal(answer, before, out)?;
         }
         if !refused && !is_sound(after) {
             return Err("left a state that is not sound".into());

@@ -82,7 +82,12 @@ pub fn name(text: &str) -> Name {
 }
 
 pub fn refused(reason: Reason, line: u64) -> Result<u64, Refusal> {
-    Err(Refusal { reason, line })
+    Err(Refusal::at(reason, line))
+}
+
+/// Refused for a fault of a line, at a column.
+pub fn bad(reason: Reason, line: u64, column: u32) -> Result<u64, Refusal> {
+    Err(Refusal { reason, line, column })
 }
 
 /// LOAD from the fresh state.

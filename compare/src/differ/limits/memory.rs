@@ -49,10 +49,11 @@ fn lengths_and_indices() -> Vec<Case> {
 
 /// Every call on a state that is broken, frozen or damaged, and again behind a RESET.
 fn marks() -> Vec<Case> {
+    // LOAD is refused by the mark alone, whatever its file.
     let calls = |load, force, base, reads, end| {
         [
             (Call::load(module("A", "")), load),
-            (Call::load("no file"), if load == 0 { 6 } else { load }),
+            (Call::load("no file"), load),
             (Call::Force(b"A".to_vec()), force),
             (Call::Force(b"?".to_vec()), if force == 0 { 15 } else { force }),
             (Call::Base(1), base),
@@ -71,7 +72,7 @@ fn marks() -> Vec<Case> {
         state[MARK] = mark;
         state
     };
-    let again = [call(Call::Reset, 0, 0), load(module("A", ""), 0, 0), load("no file", 6, 1), base(0, 3)];
+    let again = [call(Call::Reset, 0, 0), load(module("A", ""), 0, 0), bad("no file", 20, 1, 1), base(0, 3)];
     let mut cases = Vec::new();
     for (label, state, steps) in [
         ("a broken state", marked(BROKEN), [calls(3, 3, 3, 0, 3).to_vec(), vec![too_long(3)]].concat()),

@@ -1,6 +1,7 @@
-//! Cases at each limit of document 01 and one past it. The answers stand beside them, taken from the paper and not from a
-//! linker.
+//! Cases at each limit of document 01 and one past it, and each fault of a line. The answers stand beside them, taken from
+//! the papers and not from a linker.
 
+mod faults;
 mod lookups;
 mod memory;
 mod paper;
@@ -12,7 +13,7 @@ use crate::memory::fresh;
 
 /// Every case.
 pub fn all() -> Vec<Case> {
-    [paper::all(), reading::all(), placing::all(), lookups::all(), memory::all()].concat()
+    [paper::all(), reading::all(), faults::all(), placing::all(), lookups::all(), memory::all()].concat()
 }
 
 /// A module around some blocks.
@@ -53,7 +54,20 @@ fn searched(file: impl Into<Vec<u8>>, rounds: u64) -> Step {
 }
 
 fn call(call: Call, number: u64, line: u64) -> Step {
-    Step { expected: Some((number, line)), ..Step::from(call) }
+    Step { expected: Some((number, line, 0)), ..Step::from(call) }
+}
+
+/// A load that is refused for a fault of a line.
+fn bad(file: impl Into<Vec<u8>>, number: u64, line: u64, column: u64) -> Step {
+    Step { expected: Some((number, line, column)), ..Step::from(Call::load(file)) }
+}
+
+/// A load that is answered 0, or refused at a line and a column.
+fn load_or_refused(file: impl Into<Vec<u8>>, number: u64, line: u64, column: u64) -> Step {
+    match number {
+        0 => load(file, 0, 0),
+        _ => bad(file, number, line, column),
+    }
 }
 
 fn force(name: &str, number: u64) -> Step {
@@ -77,9 +91,4 @@ fn end(high: u64) -> Step {
 /// A case from the fresh state.
 fn case(label: impl AsRef<str>, steps: impl Into<Vec<Step>>) -> Case {
     Case { label: format!("limit: {}", label.as_ref()), state: fresh(), steps: steps.into() }
-}
-
-/// A load that is answered 0, or refused at a line.
-fn load_or_refused(file: String, number: u64, line: u64) -> Step {
-    load(file, number, if number == 0 { 0 } else { line })
 }

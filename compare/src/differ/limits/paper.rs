@@ -1,4 +1,4 @@
-//! Document 01's runs P1 to P10, and its slips that lie close at hand. What the states and images come to is held to the
+//! Document 01's runs P1 to P10, with the numbers that request 3/14 gives P6 and P10, and the paper's slips that lie close at hand. What the states and images come to is held to the
 //! paper by tests/document.rs, for the Rust linker that they are compared with here.
 
 use super::super::case::Index;
@@ -63,14 +63,14 @@ pub fn all() -> Vec<Case> {
         ("P4", vec![searched(MAIN, 0), call(Call::Undefined(Index::At(0)), 0, 0), end(27, 0)]),
         ("P5", vec![p1(), searched("", 0)]),
         ("P6 177777", vec![load(quarter("177777"), 0, 0)]),
-        ("P6 200000", vec![load(quarter("200000"), 6, 4)]),
-        ("P6 8", vec![load(quarter("8"), 6, 4)]),
+        ("P6 200000", vec![bad(quarter("200000"), 18, 4, 7)]),
+        ("P6 8", vec![bad(quarter("8"), 18, 4, 7)]),
         ("P7", vec![base(4095, 0), load(module("A", &code(0, 1)), 0, 0), load(module("B", ""), 0, 0)]),
         ("P7 two words", vec![base(4095, 0), load(module("A", &code(0, 2)), 9, 1)]),
         ("P8", vec![p1(), base(0, 0), load(MAIN.replace("MAIN", "OTHER"), 10, 1), load("", 3, 0), load(MAIN, 3, 0)]),
         ("P9", vec![load(section(&low.repeat(2)), 13, 1)]),
         ("P9 once", vec![searched(section(&low), 1)]),
-        ("P10", vec![load(fpb, 6, 7)]),
+        ("P10", vec![bad(fpb, 18, 7, 3)]),
         ("slip: a count of 10", vec![load(module("A", &code(0, 8)), 0, 0), memory(7)]),
         ("slip: absolute entries", vec![base(64, 0), load(module("A", "4 2 ***ENTRY\nA 5 0\nB 5 1 0\n"), 0, 0)]),
         ("slip: half-walked", vec![load(module("A", &entries(&names(0, 1))).repeat(2), 13, 7)]),

@@ -24,17 +24,18 @@ fn files_and_lines() -> Vec<Case> {
     ];
     for end in ["", "\n", "\r\n"] {
         cases.push(case(format!("80 bytes, end {end:?}"), [load(format!("{:80}{end}", ""), 0, 0)]));
-        cases.push(case(format!("81 bytes, end {end:?}"), [load(format!("{:81}{end}", ""), 6, 1)]));
+        cases.push(case(format!("81 bytes, end {end:?}"), [bad(format!("{:81}{end}", ""), 6, 1, 81)]));
         cases.push(case(format!("80 bytes of a header, end {end:?}"), [load(format!("{:80}{end}", "6 ***LSB"), 7, 2)]));
-        cases.push(case(format!("81 bytes of a header, end {end:?}"), [load(format!("{:81}{end}", "6 ***LSB"), 6, 1)]));
+        let header = format!("{:81}{end}", "6 ***LSB");
+        cases.push(case(format!("81 bytes of a header, end {end:?}"), [bad(header, 6, 1, 81)]));
     }
     for byte in 0..=255u8 {
         let file = [b"3 ***TITLE\nA\n11 1 ***DBIB\na b c d e", &[byte][..], b"f\n1 ***END\nA\n"].concat();
         let step = match byte {
-            b' ' => load(file, 6, 4),  // a sixth field
-            b'\n' => load(file, 6, 5), // a line of one field, which is no header
+            b' ' => bad(file, 17, 4, 11), // a sixth field
+            b'\n' => bad(file, 20, 5, 1), // a line of one field, which is no code
             b'!'..=b'~' => load(file, 0, 0),
-            _ => load(file, 6, 4),
+            _ => bad(file, 6, 4, 10),
         };
         cases.push(case(format!("byte {byte} in a line"), [step]));
     }
@@ -45,36 +46,43 @@ fn files_and_lines() -> Vec<Case> {
 fn lines_without_a_field() -> Vec<Case> {
     let mut cases = Vec::new();
     for byte in 0..=255u8 {
-        let number = if b" \n\r".contains(&byte) { 0 } else { 6 };
         let file = [&[byte][..], b"\n", module("A", "").as_bytes()].concat();
-        cases.push(case(format!("byte {byte} alone in a line"), [load(file, number, number / 6)]));
+        let step = match byte {
+            b' ' | b'\n' | b'\r' => load(file, 0, 0),
+            b'0' | b'1' | b'3'..=b'7' => bad(file, 17, 1, 2), // a code without its marker
+            b'!'..=b'~' => bad(file, 20, 1, 1),
+            _ => bad(file, 6, 1, 1), // no code either, but 6 goes before 20
+        };
+        cases.push(case(format!("byte {byte} alone in a line"), [step]));
     }
-    for (label, blank, number) in [
-        ("80 spaces", format!("{:80}", ""), 0),
-        ("81 spaces", format!("{:81}", ""), 6),
-        ("a second CR", "\r\r".into(), 6),
-        ("a CR in front of a space", "\r ".into(), 6),
-        ("a CR behind spaces", "  \r".into(), 0),
+    for (label, blank, number, column) in [
+        ("80 spaces", format!("{:80}", ""), 0, 0),
+        ("81 spaces", format!("{:81}", ""), 6, 81),
+        ("200 spaces", format!("{:200}", ""), 6, 81),
+        ("a second CR", "\r\r".into(), 6, 1),
+        ("a CR in front of a space", "\r ".into(), 6, 1),
+        ("a CR behind spaces", "  \r".into(), 0, 0),
+        ("two CRs behind spaces", "  \r\r".into(), 6, 3),
     ] {
         let file = format!("\n\n{blank}\n{}", module("A", ""));
-        cases.push(case(format!("{label} in a line without a field"), [load(file, number, number / 6 * 3)]));
+        cases.push(case(format!("{label} in a line without a field"), [load_or_refused(file, number, 3, column)]));
     }
     cases.push(case("lines that are skipped are counted", [load("\n \n3 ***TITLE\n\nA\n\n1 ***END\n \nB\n", 7, 9)]));
-    cases.push(case("a CR without LF", [load("3 ***TITLE\nA\n1 ***END\nA\r", 6, 4)]));
+    cases.push(case("a CR without LF", [bad("3 ***TITLE\nA\n1 ***END\nA\r", 19, 4, 1)]));
     cases
 }
 
 fn numbers_and_names() -> Vec<Case> {
     let mut cases = Vec::new();
-    for (field, number) in [("177777", 0), ("200000", 6), ("000007", 0), ("0000007", 6), ("8", 6), ("7", 0)] {
+    for (field, number) in [("177777", 0), ("200000", 18), ("000007", 0), ("0000007", 18), ("8", 18), ("7", 0)] {
         let file = module("A", &format!("0 1 0 ***CODE\n0 0 0 {field}\n"));
-        cases.push(case(format!("the number {field}"), [load_or_refused(file, number, 4)]));
+        cases.push(case(format!("the number {field}"), [load_or_refused(file, number, 4, 7)]));
     }
     let legal = ["ABCDEF", "A", "Z", "A9"].map(|name| (name, 0));
-    let illegal = ["ABCDEFG", "0A", "@", "[", "A/", "A:"].map(|name| (name, 6));
+    let illegal = ["ABCDEFG", "0A", "@", "[", "A/", "A:"].map(|name| (name, 19));
     for (name, number) in legal.into_iter().chain(illegal) {
         let file = module("A", &format!("5 1 ***EXT\n{name}\n"));
-        cases.push(case(format!("the name {name}"), [load_or_refused(file, number, 4)]));
+        cases.push(case(format!("the name {name}"), [load_or_refused(file, number, 4, 1)]));
         cases.push(case(format!("forced name {name}"), [force(name, if number == 0 { 0 } else { 15 })]));
     }
     cases.push(case("forced names", [force("", 15), force("A", 0), force("A", 0), force("a", 15), force("A\0", 15)]));
@@ -105,20 +113,20 @@ fn numbers_at_each_place() -> Vec<Case> {
         ("0 1 0 ***CODE", "0 0 0 #", 0, 0),
         ("0 1 0 ***CODE", "* # 0 0 0 0 3 0", 0, 0),
         ("0 1 0 ***CODE", "* 0 0 0 # 0 3 0", 0, 0),
-        ("0 1 0 ***CODE", "* 0 0 0 0 # 3 0", 6, 4),
-        ("0 1 0 ***CODE", "* 0 0 0 0 0 # 0", 6, 4),
+        ("0 1 0 ***CODE", "* 0 0 0 0 # 3 0", 21, 4),
+        ("0 1 0 ***CODE", "* 0 0 0 0 0 # 0", 21, 4),
         ("0 1 0 ***CODE", "* 0 0 0 0 0 3 #", 0, 0),
         ("0 1 0 ***CODE", "* 0 0 0 0 0 5 #", 11, 1),
         ("4 1 ***ENTRY", "A # 0", 0, 0),
         ("4 1 ***ENTRY", "A # 1 0", 0, 0),
-        ("4 1 ***ENTRY", "A 0 # 0", 6, 4),
+        ("4 1 ***ENTRY", "A 0 #", 21, 4),
         ("4 1 ***ENTRY", "A 0 1 #", 0, 0),
         ("13 1 ***AENTRY", "A # 1 0", 0, 0),
         ("10 1 A 0 ***DBDB", "# 0", 0, 0),
         ("10 1 A 0 ***DBDB", "0 #", 0, 0),
         ("12 1 ***FPB", "# 0 0", 0, 0),
         ("12 1 ***FPB", "0 # 0", 0, 0),
-        ("12 1 ***FPB", "0 0 #", 6, 4),
+        ("12 1 ***FPB", "0 0 #", 18, 4),
     ] {
         cases.extend(number_at(&format!("3 ***TITLE\nA\n{header}\n"), line, "1 ***END\nA\n", number, at));
     }
@@ -126,25 +134,33 @@ fn numbers_at_each_place() -> Vec<Case> {
 }
 
 fn number_at(front: &str, line: &str, behind: &str, number: u64, at: u64) -> Vec<Case> {
-    let file = |text: &str| format!("{front}{}\n{behind}", line.replace('#', text));
-    let tried = [("177777", number, at), ("200000", 6, 4), ("0000000", 6, 4), ("8", 6, 4), ("-1", 6, 4), ("A", 6, 4)];
-    tried.map(|(text, number, at)| case(format!("{text} in {line}"), [load(file(text), number, at)])).into()
+    let column = line.find('#').map_or(0, |place| place as u64 + 1);
+    let step = |text: &str| {
+        let file = format!("{front}{}\n{behind}", line.replace('#', text));
+        match (text, number) {
+            ("177777", 18 | 21) => bad(file, number, at, column),
+            ("177777", _) => load(file, number, at),
+            _ => bad(file, 18, 4, column),
+        }
+    };
+    let tried = ["177777", "200000", "0000000", "8", "-1", "A"];
+    tried.map(|text| case(format!("{text} in {line}"), [step(text)])).into()
 }
 
 /// A name of each kind at `@`: six characters are read, seven are not, nor is one that begins with a digit.
 fn names_at_each_place() -> Vec<Case> {
     let mut cases = Vec::new();
-    for (file, line) in [
-        ("3 ***TITLE\n@\n1 ***END\nABCDEF\n", 2),
-        ("3 ***TITLE\nABCDEF\n1 ***END\n@\n", 4),
-        ("3 ***TITLE\nA\n4 1 ***ENTRY\n@ 0 0\n1 ***END\nA\n", 4),
-        ("3 ***TITLE\nA\n13 1 ***AENTRY\n@ 0 0\n1 ***END\nA\n", 4),
-        ("3 ***TITLE\nA\n5 1 ***EXT\n@\n1 ***END\nA\n", 4),
-        ("3 ***TITLE\nA\n10 0 @ 0 ***DBDB\n1 ***END\nA\n", 3),
+    for (file, line, column) in [
+        ("3 ***TITLE\n@\n1 ***END\nABCDEF\n", 2, 1),
+        ("3 ***TITLE\nABCDEF\n1 ***END\n@\n", 4, 1),
+        ("3 ***TITLE\nA\n4 1 ***ENTRY\n@ 0 0\n1 ***END\nA\n", 4, 1),
+        ("3 ***TITLE\nA\n13 1 ***AENTRY\n@ 0 0\n1 ***END\nA\n", 4, 1),
+        ("3 ***TITLE\nA\n5 1 ***EXT\n@\n1 ***END\nA\n", 4, 1),
+        ("3 ***TITLE\nA\n10 0 @ 0 ***DBDB\n1 ***END\nA\n", 3, 6),
     ] {
-        for (name, number) in [("ABCDEF", 0), ("ABCDEFG", 6), ("1BCDEF", 6), ("ABCDEf", 6), ("ABC.EF", 6)] {
+        for (name, number) in [("ABCDEF", 0), ("ABCDEFG", 19), ("1BCDEF", 19), ("ABCDEf", 19), ("ABC.EF", 19)] {
             let label = format!("the name {name:?} in {:?}", file.lines().nth(line - 1).unwrap_or_default());
-            cases.push(case(label, [load_or_refused(file.replace('@', name), number, line as u64)]));
+            cases.push(case(label, [load_or_refused(file.replace('@', name), number, line as u64, column)]));
         }
     }
     cases
@@ -152,45 +168,37 @@ fn names_at_each_place() -> Vec<Case> {
 
 fn codes_types_and_sizes() -> Vec<Case> {
     let mut cases = Vec::new();
-    for (header, number, line) in [
-        ("0 0 0 ***CODE", 7, 1),
-        ("1 ***END", 7, 1),
-        ("2 ***END", 6, 1),
-        ("3 ***TITLE", 7, 2),
-        ("4 0 ***ENTRY", 7, 1),
-        ("5 0 ***EXT", 7, 1),
-        ("6 ***LSB", 7, 2),
-        ("7 ***LEB", 7, 1),
-        ("10 0 A 0 ***DBDB", 7, 1),
-        ("11 0 ***DBIB", 7, 1),
-        ("12 0 ***FPB", 7, 1),
-        ("13 0 ***AENTRY", 7, 1),
-        ("14 ***END", 6, 1),
-        ("15 0 ***END", 6, 1),
-        ("16 0 ***END", 6, 1),
-        ("177777 ***END", 6, 1),
-        ("000006 ***LSB", 7, 2),
-        ("0000006 ***LSB", 6, 1),
-        ("8 ***LSB", 6, 1),
-        ("6 ***LEB", 6, 1),
-        ("6 ***LSB ***LSB", 6, 1),
-        ("6", 6, 1),
+    // Every code alone, in six digits too: well formed but in a wrong place, or at the end of a file that ends too soon.
+    for (header, line) in [
+        ("0 0 0 ***CODE", 1),
+        ("1 ***END", 1),
+        ("3 ***TITLE", 2),
+        ("4 0 ***ENTRY", 1),
+        ("5 0 ***EXT", 1),
+        ("6 ***LSB", 2),
+        ("7 ***LEB", 1),
+        ("10 0 A 0 ***DBDB", 1),
+        ("11 0 ***DBIB", 1),
+        ("12 0 ***FPB", 1),
+        ("13 0 ***AENTRY", 1),
+        ("000006 ***LSB", 2),
     ] {
-        cases.push(case(format!("{header} alone"), [load(format!("{header}\n"), number, line)]));
+        cases.push(case(format!("{header} alone"), [load(format!("{header}\n"), 7, line)]));
     }
-    for (first, kind, number) in [(0, 0, 6), (0, 1, 0), (0, 4, 0), (0, 5, 0), (0, 6, 6), (1, 5, 6)] {
+    for code in ["2", "14", "15", "16", "17", "20", "177777", "0000006", "200000", "8", "A", "*", "6***LSB"] {
+        cases.push(case(format!("code {code}"), [bad(format!("{code} ***LSB\n"), 20, 1, 1)]));
+    }
+    for (first, kind, number, column) in
+        [(0, 0, 21, 13), (0, 1, 0, 0), (0, 4, 0, 0), (0, 5, 0, 0), (0, 6, 21, 13), (1, 5, 21, 11)]
+    {
         let file = module("A", &format!("5 1 ***EXT\nB\n0 1 0 ***CODE\n* 0 0 0 0 {first} {kind} 1\n"));
-        cases.push(case(format!("relocation {first} {kind}"), [load_or_refused(file, number, 6)]));
-    }
-    for (record, number) in [("A 0 0", 0), ("A 0 1 0", 0), ("A 0 2 0", 6), ("A 0 0 0", 6), ("A 0 1", 6)] {
-        let file = module("A", &format!("4 1 ***ENTRY\n{record}\n"));
-        cases.push(case(format!("entry {record}"), [load_or_refused(file, number, 4)]));
+        cases.push(case(format!("relocation {first} {kind}"), [load_or_refused(file, number, 6, column)]));
     }
     let fpb = |size: usize| module("A", &format!("12 1 ***FPB\n1 1 {size:o}\n{}", "1 1\n".repeat(size)));
-    cases.push(case("size of an FPB record", [load(fpb(7), 0, 0), load(fpb(8), 6, 4)]));
-    for (title, number) in [("A", 0), ("B", 7), ("AA", 7), ("a", 6), ("A A", 6)] {
+    cases.push(case("size of an FPB record", [load(fpb(7), 0, 0), bad(fpb(8), 18, 4, 5)]));
+    for (title, number, column) in [("A", 0, 0), ("B", 7, 0), ("AA", 7, 0), ("a", 19, 1), ("B A", 17, 3)] {
         let file = module("A", "").replace("END\nA", &format!("END\n{title}"));
-        cases.push(case(format!("END of A with title {title}"), [load_or_refused(file, number, 4)]));
+        cases.push(case(format!("END of A with title {title}"), [load_or_refused(file, number, 4, column)]));
     }
     cases
 }
@@ -210,16 +218,16 @@ fn lists() -> Vec<Case> {
         cases.push(case(format!("64 {label} in two blocks"), [load(two(64), 0, 0)]));
         cases.push(case(format!("65 {label} in two blocks"), [load(two(65), 8, 69)]));
     }
-    let bad = entries(&names(0, 65)).replace("N64 0 0", "N64 0 2");
+    let bad_entry = entries(&names(0, 65)).replace("N64 0 0", "N64 0 2");
     let free = module("A", "");
     let bad_external = externals(&names(0, 65)).replace("N64", "N64 0");
     let full = free.repeat(256);
     cases.extend([
-        case("a bad 65th external", [load(module("A", &bad_external), 6, 68)]),
-        case("a bad 257th TITLE header", [load(format!("6 ***LSB\n{full}3 ***TITLES\n"), 6, 256 * 4 + 2)]),
+        case("a bad 65th external", [bad(module("A", &bad_external), 17, 68, 5)]),
+        case("a bad 257th TITLE header", [bad(format!("6 ***LSB\n{full}3 ***TITLES\n"), 20, 256 * 4 + 2, 3)]),
         case("a library in a full one", [load(format!("6 ***LSB\n{full}6 ***LSB\n"), 7, 256 * 4 + 2)]),
         case("the end of a full library", [load(format!("6 ***LSB\n{full}"), 7, 256 * 4 + 2)]),
-        case("a bad 65th entry", [load(module("A", &bad), 6, 68)]),
+        case("a bad 65th entry", [bad(module("A", &bad_entry), 21, 68, 7)]),
         case("a count that no file holds", [load("3 ***TITLE\nA\n4 177777 ***ENTRY\n", 7, 4)]),
         case("256 modules in a section", [load(section(&free.repeat(256)), 0, 0)]),
         case("257 modules in a section", [load(section(&free.repeat(257)), 8, 256 * 4 + 2)]),
