@@ -11,9 +11,13 @@ static uint64_t work[LNK100_WORK_CELLS];
 static uint8_t file[LNK100_FILE_BYTES + 1]; /* one byte more, so that a file that is too long is refused and not cut */
 static uint8_t image[LNK100_IMAGE_BYTES];
 
-static int refused(const char *what, uint64_t number, uint64_t line)
+/* A column of 0 is none. */
+static int refused(const char *what, uint64_t number, uint64_t line, uint64_t column)
 {
-    printf("%s: refused by %d at line %d\n", what, (int)number, (int)line);
+    printf("%s: refused by %d at line %d", what, (int)number, (int)line);
+    if (column)
+        printf(", column %d", (int)column);
+    printf("\n");
     return 0;
 }
 
@@ -38,7 +42,7 @@ static int load(const char *path)
     }
     lnk100_load_answer a = lnk100_load(state, LNK100_STATE_CELLS, work, LNK100_WORK_CELLS, file, (size_t)n);
     if (a.number)
-        return refused(path, a.number, a.line);
+        return refused(path, a.number, a.line, a.column);
     printf("%s: loaded, %d rounds\n", path, (int)a.rounds);
     return 1;
 }
@@ -67,7 +71,7 @@ static int write_image(const char *path)
 {
     lnk100_end_answer e = lnk100_end(state, LNK100_STATE_CELLS, image, sizeof image);
     if (e.number)
-        return refused("END", e.number, e.line);
+        return refused("END", e.number, e.line, 0);
     FILE *f = fopen(path, "wb");
     int written = f && fwrite(image, 1, e.length, f) == e.length;
     if (f && fclose(f))

@@ -8,7 +8,8 @@ use lnk100::{Linker, Refused};
 use std::{env, fs, process::exit};
 
 fn stop(what: &str, r: Refused) -> ! {
-    println!("{what}: refused by {} at line {}", r.number, r.line);
+    let column = if r.column == 0 { String::new() } else { format!(", column {}", r.column) };
+    println!("{what}: refused by {} at line {}{column}", r.number, r.line);
     exit(1)
 }
 

@@ -13,8 +13,11 @@
  *     is 0. Calls on different memory may run at the same time.
  *   - lnk100_load needs 340 KB of stack, each other call 9 KB.
  *
- * Answers. `number` is 0 (LNK100_DONE) or tells why the call was refused. In a refused answer every field but `number` and `line` is 0:
- * test `number` first. `line` is the file's line, from 1, where lnk100_load is refused by 6 to 14, and else 0.
+ * Answers. `number` is 0 (LNK100_DONE) or tells why the call was refused. In a refused answer every field but `number`, `line` and
+ * `column` is 0: test `number` first. `line` is the file's line, from 1, where lnk100_load is refused by 6 to 14 or 17 to 21, and else
+ * 0. `column` is the line's byte, from 1, where it is refused by a fault of the line itself, 6 or 17 to 21, and else 0: the first byte
+ * of the faulty field (18 to 21), the first byte of the first field too many or one past the line's last byte where one is missing (17),
+ * the illegal byte, or 81 where the line is too long (6). Of several faults of a line the leftmost is told.
  *
  * Each call's answer, and every lent cell and byte afterwards, is what the call's definition in crates/rules/specs/Calls.antt gives:
  * that is proved of the functions that these declarations name. scripts/declarations.sh, with which the gate begins, holds the text of
@@ -43,7 +46,7 @@ enum {
     LNK100_RESET = 3,      /* broken: an earlier load was refused for its file; only lnk100_reset goes on */
     LNK100_FROZEN = 4,     /* lnk100_end was done; only lnk100_reset goes on */
     LNK100_TOO_LONG = 5,   /* the file has over 65,536 bytes */
-    LNK100_LINE = 6,       /* a line's length, bytes, field count, number, name, marker, code or type */
+    LNK100_LINE = 6,       /* a line has over 80 bytes, or one that is not 32 to 126 */
     LNK100_PLACE = 7,      /* a block stands where it may not, END's title differs, or the file ends inside something */
     LNK100_LIST = 8,       /* a module's 65th entry or external, a library's 257th module */
     LNK100_ROOM = 9,       /* a module reaches past address 4,095 */
@@ -53,10 +56,15 @@ enum {
     LNK100_DUPLICATE = 13, /* a second entry of one name */
     LNK100_TABLE = 14,     /* over 256 symbols */
     LNK100_NAME = 15,      /* lnk100_force of what is no name */
-    LNK100_OUT = 16        /* the output is shorter than the image */
+    LNK100_OUT = 16,       /* the output is shorter than the image */
+    LNK100_FIELDS = 17,    /* a line has a field too many or too few */
+    LNK100_NUMBER = 18,    /* a field is no number of one to six octal digits up to 177777; a size over 7 in block 12 */
+    LNK100_SYMBOL = 19,    /* a field is no name */
+    LNK100_MARKER = 20,    /* a header's marker is not its code's, or its code is unknown or no number */
+    LNK100_TYPE = 21       /* a relocation type not 1 to 5, the number before it not 0, an entry type not 0 or 1 */
 };
 
-typedef struct { uint64_t number, line, rounds; } lnk100_load_answer;
+typedef struct { uint64_t number, line, column, rounds; } lnk100_load_answer;
 typedef struct { uint64_t number, line; } lnk100_call_answer;
 typedef struct { uint64_t number, line, high; } lnk100_memory_answer;
 typedef struct { uint64_t number, line, none, name, value, defined; } lnk100_symbol_answer;
@@ -69,7 +77,8 @@ lnk100_call_answer lnk100_reset(uint64_t *state, size_t state_len);
 
 /* Reads the whole file, then places its free modules and, of its libraries, the modules that define what is undefined, in file order
  * from the next address on. `rounds` is how many times libraries were gone through, the last time of each in vain.
- * Refused by 1 to 14. A load refused by 6 to 14 leaves the state as it was but for the broken mark; by 1 to 5, wholly as it was.
+ * Refused by 1 to 14 and 17 to 21, the last with 6 for a fault of a line, whose column is told too. A load refused by 6 to 14 or 17 to
+ * 21 leaves the state as it was but for the broken mark; by 1 to 5, wholly as it was.
  * Work memory of its fixed length is zero afterwards, refused or not; of another length it is untouched. The file is not kept. */
 lnk100_load_answer lnk100_load(uint64_t *state, size_t state_len, uint64_t *work, size_t work_len, const uint8_t *file, size_t file_len);
 

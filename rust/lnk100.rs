@@ -13,17 +13,19 @@ pub const IMAGE_BYTES: usize = 45_061;
 /// What `high` and the reference of `undefined` are where there is no address.
 pub const NO_ADDRESS: u64 = 65_535;
 
-/// Document 01's names of the answers, by number.
-pub const ANSWERS: [&str; 17] = [
+/// The names of the answers, by number: document 01's, and from 17 on those of document 02's requests.
+pub const ANSWERS: [&str; 22] = [
     "DONE", "BUFFER", "DAMAGED", "RESET", "FROZEN", "TOO LONG", "LINE", "PLACE", "LIST", "ROOM", "OVERLAP", "ARG", "RANGE",
-    "DUPLICATE", "TABLE", "NAME", "OUT",
+    "DUPLICATE", "TABLE", "NAME", "OUT", "FIELDS", "NUMBER", "SYMBOL", "MARKER", "TYPE",
 ];
 
-/// A refused call: document 01's number, 1 to 16, and the line of the file where one is named, else 0.
+/// A refused call: its number, 1 to 21, and the line of the file and the line's column where they are named, else 0. A column, from 1, is
+/// named with the faults of a line, 6 and 17 to 21.
 #[derive(Debug, Clone, Copy, PartialEq, Eq)]
 pub struct Refused {
     pub number: u64,
     pub line: u64,
+    pub column: u64,
 }
 
 /// `value` is 0 where the symbol is not defined.
@@ -36,7 +38,7 @@ pub struct Symbol {
 
 mod calls {
     #[repr(C)]
-    pub struct Load { pub number: u64, pub line: u64, pub rounds: u64 }
+    pub struct Load { pub number: u64, pub line: u64, pub column: u64, pub rounds: u64 }
     #[repr(C)]
     pub struct Call { pub number: u64, pub line: u64 }
     #[repr(C)]
@@ -69,7 +71,7 @@ pub struct Linker {
 }
 
 fn done<T>(number: u64, line: u64, value: T) -> Result<T, Refused> {
-    if number == 0 { Ok(value) } else { Err(Refused { number, line }) }
+    if number == 0 { Ok(value) } else { Err(Refused { number, line, column: 0 }) }
 }
 
 fn unpacked(name: u64) -> String {
@@ -96,14 +98,14 @@ impl Linker {
         unsafe { calls::lnk100_reset(self.state.as_mut_ptr(), self.state.len()) };
     }
 
-    /// Loads a file, and gives the rounds of its library searches. Where the file is refused (6 to 14) the link is broken.
+    /// Loads a file, and gives the rounds of its library searches. Where the file is refused (6 to 14, 17 to 21) the link is broken.
     pub fn load(&mut self, file: &[u8]) -> Result<u64, Refused> {
         let a = unsafe {
             calls::lnk100_load(
                 self.state.as_mut_ptr(), self.state.len(), self.work.as_mut_ptr(), self.work.len(), file.as_ptr(), file.len(),
             )
         };
-        done(a.number, a.line, a.rounds)
+        done(a.number, a.line, a.rounds).map_err(|refused| Refused { column: a.column, ..refused })
     }
 
     /// Names an undefined symbol, so that a library's module is taken for it.

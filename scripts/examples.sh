@@ -1,7 +1,7 @@
 #!/usr/bin/env bash
 # Builds the static library and the C and the Rust example over it, and holds what both print and write to the papers. They link
 # document 01's MAIN and library (P1: rounds, P2: symbols, P3: the image) and the LNK100 manual's VCADD (source 000, Figure 4-3: the
-# words). Then both must tell a file that is refused, with its number and its line, one that cannot be read and one that cannot be
+# words). Then both must tell a file that is refused, with its number, line and column, one that cannot be read and one that cannot be
 # written.
 set -eu
 cd "$(dirname "$0")/.."
@@ -63,9 +63,9 @@ END
     echo 45 0007 0000
 } | bytes
 
-# The first line of a C program is no header: LINE, 6.
+# The first line of a C program is no header, for its first field is no code: MARKER, 20.
 both 1 target/examples/image examples/link.c <<'END'
-examples/link.c: refused by 6 at line 1
+examples/link.c: refused by 20 at line 1, column 1
 END
 # An entry of MAIN twice: DUPLICATE, 13, at the TITLE line, as in docs/MANUAL.md.
 both 1 target/examples/image examples/objects/MAIN.OBJ examples/objects/MAIN.OBJ <<'END'
