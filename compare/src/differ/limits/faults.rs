@@ -313,6 +313,7 @@ fn lengths() -> Vec<Case> {
 /// The earliest line is told, wherever its fault stands; and a fault of a line goes before its place and its lists.
 fn other_lines() -> Vec<Case> {
     vec![
+        case("a field that ends at the 80th byte", [load(format!("{:74}***LSB\n7 ***LEB\n", "6"), 0, 0)]),
         case("a fault in the second line", [bad("6 ***LSB\n7 ***LEB 0\n2\n", 17, 2, 10)]),
         case("a block in a wrong place, then a bad line", [load("7 ***LEB\n2\n", 7, 1)]),
         case("a bad block in a wrong place", [bad("7 ***LEB 0\n", 17, 1, 10)]),
