@@ -12,6 +12,7 @@ cd "$(dirname "$0")/.."
 specs=crates/rules/specs
 known=missed/definitions.txt
 jobs=${RT_JOBS:-2}
+numbers=$(sed -nE 's/^([A-Z-]+) = [0-9]+$/\1, /p' $specs/Answers.antt | tr -d '\n')
 [ $# -gt 0 ] || set -- $(basename -s .antt -a $specs/*.antt | grep -vx Lib)
 work=$(mktemp -d)
 trap 'rm -rf "$work"' EXIT
@@ -54,7 +55,7 @@ prepared() { # COPY
   cp -r crates crates.txt "$1"
   sed -i -E 's/^use lib\.Dec\.\{.*\}$/use lib.Dec.{eqb, leb, ltb}/
     s/^use mathlib\.Core\.Bool\.\{.*\}$/use mathlib.Core.Bool.{Bool, true, false, cond, not, _\&\&_, _||_}/
-    s/^use (Rattle\.rules\.specs\.Answers)\.\{.*\}$/use \1.{DONE, BUFFER, DAMAGED, RESET, FROZEN, TOO-LONG, LINE, PLACE, LIST, ROOM, OVERLAP, ARG, RANGE, DUPLICATE, TABLE, NAME, OUT}/' "$1"/$specs/*.antt
+    s/^use (Rattle\.rules\.specs\.Answers)\.\{.*\}$/use \1.{'"$numbers"'isLineFault, isFileFault}/' "$1"/$specs/*.antt
   (cd "$1" && rt dev rules) > "$1/said" 2>&1 || true
   grep -q '^logic=proved' "$1/said" || { echo "wrong-definitions: rules is not proved as it is"; cat "$1/said"; exit 1; }
   cp -r "$1/target/inc" "$1/checked"

@@ -124,10 +124,6 @@ answerName n = nameIn answers n
 abbrev pub isLineFault : ℕ → Bool
 isLineFault k = eqb k LINE || between FIELDS TYPE k
 
--- a fault of reading: besides, 7 and 8, which have no column
-abbrev pub isReadingFault : ℕ → Bool
-isReadingFault k = isLineFault k || between PLACE LIST k
-
 -- "LOAD refused by 6 to 14 sets the broken mark", and "these set the broken mark as 6 did"
 abbrev pub isFileFault : ℕ → Bool
 isFileFault k = isLineFault k || between PLACE TABLE k
