@@ -2,14 +2,14 @@
 use Prim.Native.Nat.{ℕ}
 use mathlib.Core.Bool.{Bool}
 use mathlib.Core.List.{List, [], _∷_}
-use mathlib.Core.Path.{_≡_, refl, sym, ap, subst, _∙_}
+use mathlib.Core.Path.{_≡_, ap, subst, _∙_}
 use lib.ListN.{length}
 use borrow.Author.Tests.{eq-eqb}
 use Rattle.rules.specs.Limits.{workSize}
 use Rattle.rules.specs.Reading.{Module, section, readingOf, itemsOf}
 use Rattle.rules.specs.State.{State, broken, marked}
 use Rattle.rules.specs.Load.{refusal, walking, searched, walkFrom, loaded, loadRead, loadFile}
-use Rattle.rules.specs.Calls.{Lent, holding, loadOutcome, load, symbolAt, symbols}
+use Rattle.rules.specs.Calls.{holding, loadOutcome, load, symbolAt, symbols}
 use Rattle.rules.specs.History.{workFits}
 use Rattle.rules.specs.declared.answer.LoadAnswer.{LoadAnswer}
 use Rattle.rules.specs.Demand.{LeastSufficient, LeastAtEach}

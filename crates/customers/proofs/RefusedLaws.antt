@@ -4,11 +4,10 @@ use native.Mathlib.Omega.{arith}
 use mathlib.Core.Bool.{Bool, true, false, cond}
 use mathlib.Core.List.{List}
 use mathlib.Core.Logic.{_≢_}
-use mathlib.Core.Path.{_≡_, refl, sym, ap, ap₂, _∙_}
+use mathlib.Core.Path.{_≡_, refl, sym, ap, _∙_}
 use lib.ListN.{length, getD, replicate}
 use borrow.Author.Tests.{eq-eqb, ne-eqb}
 use Rattle.rules.specs.Limits.{workSize}
-use Rattle.rules.specs.Text.{between}
 use Rattle.rules.specs.State.{State, Mark, broken, frozen, marked, sound}
 use Rattle.rules.specs.Calls.{Lent, wrongLength, damaged, holding, Left, asBefore, now, Outcome, loadStopped, EndOutcome, endStopped, loadAnswer, callAnswer, endAnswer, stopped, load, force, base, end, workAfter}
 use Rattle.rules.specs.History.{loading, workFits, leftBy, stateAfter, called}
@@ -16,15 +15,14 @@ use Rattle.rules.proofs.SoundCalls.{called-sound}
 use Rattle.rules.specs.declared.answer.LoadAnswer.{LoadAnswer}
 use Rattle.rules.specs.declared.answer.CallAnswer.{CallAnswer}
 use Rattle.rules.specs.declared.answer.EndAnswer.{EndAnswer}
-use Rattle.rules.proofs.TestLaws.{between-low, between-high}
+use Rattle.rules.proofs.TestLaws.{between-high}
 use Rattle.rules.proofs.AnswerLaws.{right-fault, file-fault-low}
 use Rattle.rules.proofs.LoadLaws.{Ending, done, ahead, forFile, load-ends}
 use Rattle.rules.proofs.OrderLaws.{load-without-work, load-wrong-length, load-damaged, load-lent, load-broken, load-frozen, force-broken, base-broken, end-broken}
-use Rattle.rules.proofs.CallLaws.{end-cases}
 use Rattle.state.specs.Layout.{encode, lent, cellsAfter}
 use Rattle.state.specs.Promise.{Called, Ended}
-use Rattle.state.proofs.LentLaws.{held-encoded, held-sound, lent-encode}
-use Rattle.customers.specs.Words.{markAt, SameButMark}
+use Rattle.state.proofs.LentLaws.{held-encoded, held-sound}
+use Rattle.customers.specs.Words.{SameButMark}
 use Rattle.customers.proofs.LentBefore.{zeros-fit, answer-is, holds-then}
 
 -- ---- what a refused load leaves

@@ -24,7 +24,7 @@ use Rattle.text.specs.declared.numbers.Number.the-variants.{Value, NotANumber}
 use Rattle.text.proofs.FieldLaws.{field, field-found, no-field}
 use Rattle.text.proofs.MarkerLaws.{no-block}
 use Rattle.line.specs.Fitting.{lineFields, endColumn}
-use Rattle.line.specs.Shapes.{rowShape, known, shapeOf, shapeLine}
+use Rattle.line.specs.Shapes.{rowShape, known, shapeLine}
 use Rattle.line.proofs.ShapeLaws.{tabulate, at-place, shape-header}
 
 -- ---- which codes are known

@@ -13,7 +13,6 @@ use Rattle.rules.specs.Line.{Row, headers, rowIn, rowOf, markerIn, markerOf, He
 use Rattle.rules.specs.declared.line.FaultKind.the-variants.{IllegalByte, BadMarker}
 use Rattle.rules.specs.declared.line.Kind.{Kind}
 use Rattle.rules.specs.declared.line.Kind.the-variants.{Marker}
-use Rattle.rules.specs.declared.line.Header.{Header}
 use Rattle.rules.specs.declared.line.Expected.the-variants.{AnyHeader}
 use Rattle.rules.specs.declared.line.LineAnswer.{LineAnswer}
 use Rattle.rules.specs.declared.line.LineAnswer.the-variants.{Bad, Blank, Head, Opening, Closing, Code, Entered, Mentioned, Ignored, Parameter, Sub}

@@ -2,18 +2,18 @@
 -- and 8, which have none; placing with 9 to 14.
 use Prim.Native.Nat.{ℕ, _+_, _≤_}
 use native.Mathlib.Omega.{arith}
-use mathlib.Core.Bool.{Bool, true, false, cond, not, _&&_, _||_, true≢false, false≢true, or-true}
+use mathlib.Core.Bool.{Bool, true, false, cond, not, _&&_, _||_, or-true}
 use mathlib.Core.List.{List, [], _∷_, map}
 use mathlib.Core.Logic.{_⊎_, inl, inr}
 use mathlib.Core.Option.{some}
-use mathlib.Core.Path.{_≡_, refl, sym, ap, _∙_}
+use mathlib.Core.Path.{_≡_, refl}
 use lib.Dec.{eqb, ltb, leb}
 use borrow.Author.Tests.{eqb-true, ne-eqb}
-use Rattle.rules.specs.Answers.{Answer, answers, isLineFault, isFileFault}
+use Rattle.rules.specs.Answers.{answers, isLineFault, isFileFault}
 use Rattle.rules.specs.Text.{between, linesOf}
 use Rattle.rules.specs.Line.{faultIn, lineAnswer}
 use Rattle.rules.specs.Faults.{faultNumber}
-use Rattle.rules.specs.Reading.{titleStep, libraryStep, libraryEndStep, headerStep, closingStep, entryStep, externalStep, parameterStep, subStep, stepOf, stepAt, isHeader, atEnd, readingOf, atStart, insideModule, titleHeader, enterSection, leaveSection, expectRecords, expect, recordDone, countEntry, countExternal, leaveModule, Module}
+use Rattle.rules.specs.Reading.{titleStep, libraryStep, libraryEndStep, headerStep, closingStep, entryStep, externalStep, parameterStep, subStep, stepOf, stepAt, isHeader, atEnd, readingOf, atStart, Module}
 use Rattle.rules.specs.State.{State}
 use Rattle.rules.specs.Placing.{placingFault, noRoom, overlaps, badArguments, outOfRange, duplicates, tableFull}
 use Rattle.rules.specs.declared.line.FaultKind.{FaultKind}
@@ -24,7 +24,6 @@ use Rattle.rules.specs.declared.line.Header.the-variants.{CodeBlock, End
 use Rattle.rules.specs.declared.line.LineAnswer.{LineAnswer}
 use Rattle.rules.specs.declared.line.LineAnswer.the-variants.{Bad, Blank, Head, Opening, Closing, Code, Entered, Mentioned, Ignored, Parameter, Sub}
 use Rattle.rules.specs.declared.reading.Mode.{Mode}
-use Rattle.rules.specs.declared.reading.Part.the-variants.{EntryPart, ExternalPart, BlockPart, WordPart}
 use Rattle.rules.specs.declared.reading.Step.{Step}
 use Rattle.rules.specs.declared.reading.Step.the-variants.{Stop, Next, Add, CloseModule, CloseSection}
 use Rattle.rules.specs.declared.reading.Reading.{Reading}

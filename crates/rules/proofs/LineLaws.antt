@@ -9,9 +9,9 @@ use lib.ListN.{length, getD}
 use lib.Dec.{eqb, leb, ltb}
 use borrow.Author.Tests.{leb-true, le-leb, lt-ltb, ltb-true, eqb-false}
 use Rattle.rules.specs.Text.{Field, fieldsOf, numberOf, nameOf, between, isPacked, sameText}
-use Rattle.rules.specs.Line.{nth, Row, headers, rowIn, rowOf, Held, value, wrong, held, inBounds, readField, Fitted, fits, misfit, inFront, fit, Shape, said, readAs, headerShape, headerShapeIn, rowAt, firstText, markerOf, wordOf, relocationOf, Record, linkedCode, plainCode, relocatedEntry, absoluteEntry, recordShape, starred, codeShape, isOne, textAt, entryShape, shapeFor, sayFields, lineOf, faultIn, within, testBytes, lineAnswer}
+use Rattle.rules.specs.Line.{nth, Row, headers, rowIn, rowOf, Held, value, wrong, held, inBounds, readField, Fitted, fits, misfit, inFront, fit, Shape, said, readAs, headerShapeIn, rowAt, firstText, markerOf, wordOf, relocationOf, Record, linkedCode, plainCode, relocatedEntry, absoluteEntry, recordShape, starred, codeShape, isOne, textAt, entryShape, shapeFor, sayFields, lineOf, faultIn, within, testBytes, lineAnswer}
 use Rattle.rules.specs.declared.line.FaultKind.{FaultKind}
-use Rattle.rules.specs.declared.line.FaultKind.the-variants.{BadMarker, BadNumber, BadName}
+use Rattle.rules.specs.declared.line.FaultKind.the-variants.{BadMarker, BadName}
 use Rattle.rules.specs.declared.line.Fault.{Fault}
 use Rattle.rules.specs.declared.line.Kind.{Kind}
 use Rattle.rules.specs.declared.line.Kind.the-variants.{Number, Name, Anything, Marker}
@@ -147,7 +147,7 @@ in-bounds low high j (wrong k) = tt
 
 read-field : (k : Kind) (f : List ℕ) → HoldsIn k (readField k f)
 unfolding readField held
-read-field (Number low high j) f = in-bounds low high j (held BadNumber (numberOf f))
+read-field (Number low high j) f = in-bounds low high j _
 read-field Name f = go (nameOf f) refl
   where
     go : (o : Option ℕ) → nameOf f ≡ o → HoldsIn Name (held BadName o)

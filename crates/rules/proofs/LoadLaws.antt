@@ -1,20 +1,20 @@
 -- How a load can end: accepted; refused ahead of reading, with nothing changed; or refused for its file, with the broken mark set
 -- and nothing else changed.
-use Prim.Native.Nat.{ℕ, _+_, _≤_}
+use Prim.Native.Nat.{ℕ}
 use native.Mathlib.Omega.{arith}
-use mathlib.Core.Bool.{Bool, true, false, cond, not, _&&_, _||_}
+use mathlib.Core.Bool.{Bool, true, false, cond, not, _&&_}
 use mathlib.Core.List.{List, [], _∷_}
-use mathlib.Core.Path.{_≡_, refl, sym, ap, _∙_}
+use mathlib.Core.Path.{_≡_, refl}
 use lib.ListN.{length}
-use lib.Dec.{eqb, ltb, leb}
+use lib.Dec.{eqb, ltb}
 use Rattle.rules.specs.Text.{between}
 use Rattle.rules.specs.Reading.{Module, Item, free, section, readingOf, itemsOf}
 use Rattle.rules.specs.State.{State, Mark, unmarked, broken, frozen, marked}
 use Rattle.rules.specs.Placing.{placingFault, placed, twice}
 use Rattle.rules.specs.Search.{ModuleSet}
-use Rattle.rules.specs.Load.{Walk, refusal, walk, walking, accepted, tryPlace, place, takes, searched, sectionNames, testSection, Progress, progress, walkItem, walkItems, walkFrom, Loaded, loaded, walked, loadRead, loadFile}
+use Rattle.rules.specs.Load.{Walk, refusal, walk, walking, accepted, tryPlace, place, takes, searched, sectionNames, testSection, Progress, progress, walkItem, walkItems, walkFrom, loaded, walked, loadRead, loadFile}
 use Rattle.rules.specs.declared.answer.LoadAnswer.{LoadAnswer}
-use Rattle.rules.specs.Calls.{Left, asBefore, now, Lent, holding, shutBy, Outcome, loadStopped, loadOutcome, loadState, loadLent, load}
+use Rattle.rules.specs.Calls.{asBefore, now, holding, shutBy, Outcome, loadStopped, loadOutcome, loadState, loadLent, load}
 use Rattle.rules.specs.declared.reading.Reading.{Reading}
 use Rattle.rules.specs.declared.reading.Reading.the-variants.{Complete, Stopped}
 use Rattle.rules.proofs.TestLaws.{cond-keeps, between-wider}

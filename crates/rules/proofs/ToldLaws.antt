@@ -4,21 +4,20 @@ use Prim.Native.Nat.{ℕ, _+_, _≤_}
 use native.Mathlib.Omega.{arith}
 use mathlib.Core.List.{List, [], _∷_, _++_, append-assoc}
 use mathlib.Core.Bool.{true}
-use mathlib.Core.Option.{none, some}
-use mathlib.Core.Path.{_≡_, refl, sym, ap, _∙_}
+use mathlib.Core.Option.{some}
+use mathlib.Core.Path.{_≡_, sym, ap, _∙_}
 use lib.ListN.{length}
 use Rattle.rules.specs.Limits.{longestFile}
 use Rattle.rules.specs.Text.{linesOf}
 use Rattle.rules.specs.Line.{faultIn, lineAnswer}
 use Rattle.rules.specs.Faults.{faultNumber, faultsOf, leftmost}
-use Rattle.rules.specs.Reading.{stepOf, ReadSoFar, unread, stepped, ifComplete, readLine, readLines, readingOf}
+use Rattle.rules.specs.Reading.{stepOf, unread, stepped, ifComplete, readLine, readLines, readingOf}
 use Rattle.rules.specs.State.{State, unmarked, broken, marked}
 use Rattle.rules.specs.Load.{loadRead, loadFile}
-use Rattle.rules.specs.Calls.{now, holding, Outcome, outcome, loadAnswer, loadOutcome, load}
+use Rattle.rules.specs.Calls.{now, holding, outcome, loadAnswer, load}
 use Rattle.rules.specs.declared.line.Fault.{Fault}
 use Rattle.rules.specs.declared.line.LineAnswer.{LineAnswer}
 use Rattle.rules.specs.declared.line.LineAnswer.the-variants.{Bad, Blank, Head, Opening, Closing, Code, Entered, Mentioned, Ignored, Parameter, Sub}
-use Rattle.rules.specs.declared.reading.Reading.{Reading}
 use Rattle.rules.specs.declared.reading.Reading.the-variants.{Complete, Stopped}
 use Rattle.rules.proofs.BoolLaws.{never-none}
 use Rattle.rules.proofs.FaultLaws.{told-leftmost}

@@ -82,6 +82,7 @@ unfoldable pub ahead : Fault → Fault → Bool
 ahead f g =
     ltb (f .column) (g .column) || (eqb (f .column) (g .column) && ltb (rank (f .kind)) (rank (g .kind)))
 
+-- the one of the two that is told
 unfoldable pub aheadOf : Fault → Option Fault → Fault
 aheadOf f none = f
 aheadOf f (some g) = cond (ahead g f) g f

@@ -1,12 +1,12 @@
 -- `line::fields_say` meets its contract: by whether there is a field, then by what is expected.
 -- Assumes nothing.
 use mathlib.Core.Option.{some}
-use mathlib.Core.Path.{_≡_, refl}
+use mathlib.Core.Path.{_≡_}
 use denote.Ref.{now}
-use Rattle.rules.specs.Line.{Shape, readAs, recordShape, shapeFor, lineOf}
+use Rattle.rules.specs.Line.{Shape, readAs, shapeFor, lineOf}
 use Rattle.rules.specs.declared.line.LineAnswer.{LineAnswer}
 use Rattle.line.specs.Fitting.{endColumn, lineFields}
-use Rattle.line.specs.Shapes.{records, shapeOf, shapeLine}
+use Rattle.line.specs.Shapes.{records, shapeOf}
 use Rattle.line.proofs.AnswerLaws.{line-blank, line-shaped}
 use borrow.Author.Needs.{needs}
 use Rattle.line.proofs.fields_say.Statement.{statement}
