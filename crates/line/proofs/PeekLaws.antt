@@ -66,6 +66,11 @@ module _ (at stop s : ℕ) (l : List ℕ) (h : InFile at stop l) (e : s ≡ fiel
           ∙ ap (λ (t : List ℕ). sameText t (42 ∷ [])) (sym (first-is ∙ part-cons s end l (ltb-true s end x) m))
       go false x = none-first _ (first-is ∙ part-nil s end l (ltb-false s end x))
 
+-- the first field is compared
+pub star-field : {at stop : ℕ} {file r : RefT (List ℕ)} → NextField at stop file r → {x : Bool} → x ≡ sameText (now r) (42 ∷ []) →
+    x ≡ starred (lineFields at stop (now file))
+star-field n e = e ∙ ap (λ (t : List ℕ). sameText t (42 ∷ [])) (sym (next-text n))
+
 -- ---- further fields
 
 text-first : (fs : List Field) → textAt fs 0 ≡ firstText fs

@@ -58,26 +58,20 @@ fn plain_line(file: &[u8], at: usize, stop: usize) -> LineAnswer
     })
 }
 
-// Is the line's first field an asterisk? Of most lines the first byte tells.
-fn is_starred(file: &[u8], at: usize, stop: usize) -> bool
-    requires { ⌜ InFile at stop (now file) ⌝ }
-    ensures { λ r. ⌜ r ≡ starred (lineFields at stop (now (file .entry))) ⌝ }
-{
-    let start = field_start(file, at, stop);
-    if start == stop {
-        return false;
-    }
-    if file[start] != b'*' {
-        return false;
-    }
-    is_star(next_field(file, at, stop))
-}
-
+// Is the first field an asterisk? Of most lines its first byte tells. `plain_line` is called at three places, so that the compiler
+// leaves it a function of its own: within the reading's loop its columns would take registers from what the loop keeps.
 pub fn code_line(file: &[u8], at: usize, stop: usize) -> LineAnswer
     requires { ⌜ InFile at stop (now file) ⌝ }
     ensures { λ r. ⌜ r ≡ readAs (codeShape (lineFields at stop (now (file .entry)))) (endColumn at stop) (lineFields at stop (now (file .entry))) ⌝ }
 {
-    if is_starred(file, at, stop) {
+    let start = field_start(file, at, stop);
+    if start == stop {
+        return plain_line(file, at, stop);
+    }
+    if file[start] != b'*' {
+        return plain_line(file, at, stop);
+    }
+    if is_star(next_field(file, at, stop)) {
         return read_as(file, at, stop, STARRED);
     }
     plain_line(file, at, stop)
