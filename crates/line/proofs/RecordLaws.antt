@@ -69,19 +69,17 @@ joined-four (a ∷ b ∷ c ∷ d ∷ f ∷ fs) e = absurd (omega arith)
 pub record Quarters (at stop : ℕ) (l : List ℕ) (text i k : ℕ) : Type 0 where
   pub few : k ≤ 4
   pub small : text < 65536 ^ k
-  pub plain : starred (lineFields at stop l) ≡ false
   pub done : List ℕ
   pub count : length done ≡ k
   pub is : text ≡ joined 0 done
   pub fitting : Fitting quarters at stop l done (replicate (4 - k) number) i
 
-pub quarters-start : (at stop : ℕ) (l : List ℕ) → InFile at stop l → starred (lineFields at stop l) ≡ false → Quarters at stop l 0 at 0
+pub quarters-start : (at stop : ℕ) (l : List ℕ) → InFile at stop l → Quarters at stop l 0 at 0
 unfolding joined
-quarters-start at stop l h s =
+quarters-start at stop l h =
     record {
       few = omega arith;
       small = omega arith;
-      plain = s;
       done = [];
       count = refl;
       is = refl;
@@ -92,9 +90,13 @@ module _ {at stop : ℕ} {l : List ℕ} {text i k : ℕ} (q : Quarters at stop l
   abbrev Says : LineAnswer → Type 0
   Says a = a ≡ readAs (codeShape (lineFields at stop l)) (endColumn at stop) (lineFields at stop l)
 
-  told : {j : FaultKind} {c : ℕ} {a : LineAnswer} → a ≡ Bad (fault j c) → misfit (fault j c) ≡ fit (endColumn at stop) quarters (lineFields at stop l) → Says a
+  -- the first field is no asterisk
+  abbrev Unstarred : Type 0
+  Unstarred = starred (lineFields at stop l) ≡ false
+
+  told : Unstarred → {j : FaultKind} {c : ℕ} {a : LineAnswer} → a ≡ Bad (fault j c) → misfit (fault j c) ≡ fit (endColumn at stop) quarters (lineFields at stop l) → Says a
   unfolding codeShape readAs recordShape said
-  told b e = b ∙ rw (q .plain, ← e)
+  told u b e = b ∙ rw (u, ← e)
 
   -- the text fits with room for one quarter more
   pub quarters-room : k < 4 → text < 65536 ^ 3
@@ -104,20 +106,19 @@ module _ {at stop : ℕ} {l : List ℕ} {text i k : ℕ} (q : Quarters at stop l
     next : Fitting quarters at stop l (q .done) (number ∷ replicate (4 - (k + 1)) number) i
     next = let m : 4 - k ≡ suc (4 - (k + 1)) = omega arith in rw m at (q .fitting)
 
-    pub quarters-few : s ≡ stop → {a : LineAnswer} → a ≡ Bad (fault FieldCount (endColumn at stop)) → Says a
-    quarters-few g b = told b (fitting-few s e next g)
+    pub quarters-few : Unstarred → s ≡ stop → {a : LineAnswer} → a ≡ Bad (fault FieldCount (endColumn at stop)) → Says a
+    quarters-few u g b = told u b (fitting-few s e next g)
 
     module _ (g : s < stop) {n : NumberField} (f : FieldRead s stop l n) where
-      pub quarters-wrong : n .number ≡ NotANumber → {o : LineAnswer} → o ≡ Bad (fault BadNumber (s - at + 1)) → Says o
-      quarters-wrong w o =
-          told o (fitting-wrong s e next g _ refl (number-no 0 65535 BadNumber (fieldText s stop l) (f .is) w))
+      pub quarters-wrong : Unstarred → n .number ≡ NotANumber → {o : LineAnswer} → o ≡ Bad (fault BadNumber (s - at + 1)) → Says o
+      quarters-wrong u w o =
+          told u o (fitting-wrong s e next g _ refl (number-no 0 65535 BadNumber (fieldText s stop l) (f .is) w))
 
       pub quarters-step : {v : ℕ} → n .number ≡ Value v → v ≤ 65535 → Quarters at stop l (text * 65536 + v) (n .end) (k + 1)
       quarters-step {v} w most =
           record {
             few = omega arith;
             small = rw add-one (omega (arith, q .small));
-            plain = q .plain;
             done = q .done ++ (v ∷ []);
             count = length-append (q .done) (v ∷ []) ∙ ap (λ (n : ℕ). n + 1) (q .count);
             is = ap (λ (n : ℕ). n * 65536 + v) (q .is) ∙ sym (joined-more 0 (q .done) v);
@@ -130,11 +131,11 @@ module _ {at stop : ℕ} {l : List ℕ} {text i k : ℕ} (q : Quarters at stop l
     last : Fitting quarters at stop l (q .done) [] i
     last = let m : 4 - k ≡ 0 = omega arith in rw m at (q .fitting)
 
-    pub quarters-many : s < stop → {a : LineAnswer} → a ≡ Bad (fault FieldCount (s - at + 1)) → Says a
-    quarters-many g b = told b (fitting-many s e last g)
+    pub quarters-many : Unstarred → s < stop → {a : LineAnswer} → a ≡ Bad (fault FieldCount (s - at + 1)) → Says a
+    quarters-many u g b = told u b (fitting-many s e last g)
 
-    pub quarters-end : stop ≤ s → Says (Code (codeWord text Plain))
+    pub quarters-end : Unstarred → stop ≤ s → Says (Code (codeWord text Plain))
     unfolding codeShape readAs recordShape said
-    quarters-end g =
+    quarters-end u g =
         let n : length (q .done) ≡ 4 = omega (arith, q .count, q .few) in
-        rw (q .plain, ← (fitting-end s e last g), q .is, joined-four (q .done) n)
+        rw (u, ← (fitting-end s e last g), q .is, joined-four (q .done) n)

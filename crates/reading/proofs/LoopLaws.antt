@@ -2,14 +2,17 @@
 use Prim.Native.Nat.{ℕ, _+_, _≤_}
 use native.Mathlib.Omega.{arith}
 use mathlib.Core.List.{List, [], _∷_}
-use mathlib.Core.Path.{_≡_, refl, sym, ap, subst, _∙_}
+use mathlib.Core.Path.{_≡_, refl, sym, ap, ap₂, subst, _∙_}
 use lib.ListN.{length, drop, length-append}
 use Rattle.rules.specs.Text.{linesOf}
-use Rattle.rules.specs.Line.{lineAnswer}
-use Rattle.rules.specs.Reading.{atStart, stepOf, stepAt, atEnd, readingOf}
+use Rattle.rules.specs.Line.{codeWord, lineAnswer}
+use Rattle.rules.specs.Reading.{atStart, recordDone, wordPart, stepOf, stepAt, atEnd, readingOf}
 use Rattle.rules.proofs.FoldLaws.{onStep, readFrom, reading-lines}
 use Rattle.rules.specs.Calls.{overwritten}
+use Rattle.rules.specs.declared.line.CodeWord.{CodeWord}
+use Rattle.rules.specs.declared.line.Expected.the-variants.{CodeRecord}
 use Rattle.rules.specs.declared.line.LineAnswer.{LineAnswer}
+use Rattle.rules.specs.declared.line.Relocation.the-variants.{Plain}
 use Rattle.rules.specs.declared.reading.Mode.{Mode}
 use Rattle.rules.specs.declared.reading.Part.{Part}
 use Rattle.rules.specs.declared.reading.Reading.{Reading}
@@ -21,6 +24,8 @@ use Rattle.text.specs.Scan.{part}
 use Rattle.text.specs.LineEnds.{NextLine}
 use Rattle.text.specs.declared.lines.LineSpan.{LineSpan}
 use Rattle.text.proofs.LineLaws.{no-line}
+use Rattle.usual.specs.Words.{WordRead}
+use Rattle.usual.specs.declared.UsualWord.{UsualWord}
 use Rattle.reading.specs.TwoTables.{Tables, empty, addPart, addModule, addSection, emit, tablesFrom, tablesOf}
 use Rattle.reading.specs.Filling.{filledOf, partsIn, rowsIn, PartRoom, RowRoom, Fills, Lent, fileRead, ReadInto}
 use Rattle.reading.specs.declared.fill.Filled.{Filled}
@@ -104,6 +109,15 @@ module _ (file lentParts lentRows : List ℕ) where
           numbered = omega (arith, b .numbered, l .moves);
           ends = l .ends;
         }
+
+    -- the same of a code word that was read in one pass
+    pub word-turn :
+        {h : Mode} → h ≡ m → {w : UsualWord} → WordRead (h .expected) at file w → {x : CodeWord} → x ≡ codeWord (w .text) Plain
+        → {k : Mode} → k ≡ recordDone CodeRecord h → {p : Part} → p ≡ wordPart h x → Turn (b .here) n (w .next) (Add k p)
+    unfolding stepOf
+    word-turn {h} g {w} r u {k} e {p} f =
+        subst (λ (next : ℕ). Turn (b .here) n next (Add k p)) (r .follows)
+        (turn (r .line) g (r .says) (ap₂ Add e (f ∙ ap (wordPart h) u)))
 
     -- the next line, after the tables became t
     proceed :
@@ -228,14 +242,21 @@ module _ (file lentParts lentRows : List ℕ) where
           few-rows = omega (arith, b .short, b .room, count-rows);
         }
 
+    left :
+        {x : Reading} {r : FileRead} → r ≡ fileRead x f → x ≡ readingOf file → b .here ≡ tablesOf file
+        → ReadInto file lentParts lentRows r parts rows
+    left g d e = subst (λ (r : FileRead). ReadInto file lentParts lentRows r parts rows) (sym g) (finished d e)
+
     pub faulty :
         {next j c : ℕ} → Turn (b .here) n next (Stop j c) → {x : FileRead} → x ≡ fileRead (Stopped j n c) f
         → ReadInto file lentParts lentRows x parts rows
     unfolding onStep emit
-    faulty t e = subst (λ (x : FileRead). ReadInto file lentParts lentRows x parts rows) (sym e) (finished (t .reading) (t .tables))
+    faulty t e = left e (t .reading) (t .tables)
 
-    pub whole : length file ≤ at → {x : Reading} → x ≡ atEnd n m → ReadInto file lentParts lentRows (fileRead x f) parts rows
+    pub whole :
+        length file ≤ at → {x : Reading} → x ≡ atEnd n m → {r : FileRead} → r ≡ fileRead x f
+        → ReadInto file lentParts lentRows r parts rows
     unfolding readFrom tablesFrom
-    whole h e =
+    whole h e g =
         let none-left = no-line at file h in
-        finished (e ∙ sym (ap (readFrom n m) none-left) ∙ b .reading) (sym (ap (tablesFrom n m (b .here)) none-left) ∙ b .tables)
+        left g (e ∙ sym (ap (readFrom n m) none-left) ∙ b .reading) (sym (ap (tablesFrom n m (b .here)) none-left) ∙ b .tables)

@@ -8,14 +8,21 @@ use crate::fill::close_section;
 use crate::fill::nothing;
 use line::line_answer;
 use line_reader::line_from;
+use rules::line::CodeWord;
+use rules::line::Expected;
+use rules::line::Relocation;
 use rules::reading::Reading;
 use rules::reading::Step;
 use steps::lines::at_end;
 use steps::lines::step_of;
 use steps::modes::at_start;
+use steps::modes::record_done;
 use steps::modes::renewed;
+use steps::records::word_part;
+use usual::usual_word;
 ghost use mathlib.Core.Path.{_≡_};
-ghost use Rattle.rules.specs.declared.reading.Reading.the-variants.{Stopped};
+ghost use Rattle.rules.specs.Line.{codeWord};
+ghost use Rattle.rules.specs.declared.line.Relocation.the-variants.{Plain};
 ghost use Rattle.reading.specs.Filling.{fileRead, Lent, ReadInto};
 
 // What reading a file came to, and how many parts and rows stand in the tables.
@@ -25,18 +32,24 @@ pub struct FileRead {
     pub rows: usize,
 }
 
-// A fault at line n.
-fn stopped(number: u64, n: u32, column: usize, filled: Filled) -> FileRead
-    ensures { λ r. ⌜ r ≡ fileRead (Stopped number n column) filled ⌝ }
+// The tables stand as they are filled.
+fn ended(reading: Reading, filled: Filled) -> FileRead
+    ensures { λ r. ⌜ r ≡ fileRead reading filled ⌝ }
 {
     FileRead {
-        reading: Reading::Stopped {
-            number,
-            line: n,
-            column,
-        },
+        reading,
         parts: filled.parts,
         rows: filled.rows,
+    }
+}
+
+// A code word without a relocation.
+fn plain(text: u64) -> CodeWord
+    ensures { λ r. ⌜ r ≡ codeWord text Plain ⌝ }
+{
+    CodeWord {
+        text,
+        relocation: Relocation::Plain,
     }
 }
 
@@ -51,15 +64,29 @@ pub fn read_file(file: &[u8], parts: &mut [u64], rows: &mut [u64]) -> FileRead
     let mut at = 0;
     while at < file.len() {
         let n = line;
-        let span = line_from(file, at);
         let here = renewed(mode);
         let expected = here.expected;
+        line += 1;
+        let word = usual_word(file, at, expected);
+        if word.fits {
+            filled = add_part(parts, filled, word_part(here, plain(word.text)));
+            mode = record_done(Expected::CodeRecord, here);
+            at = word.next;
+            continue;
+        }
+        let span = line_from(file, at);
         let answer = line_answer(file, at, span.stop, span.front, expected);
         let step = step_of(n, here, answer);
         at = span.next;
-        line += 1;
         match step {
-            Step::Stop { number, column } => return stopped(number, n, column, filled),
+            Step::Stop { number, column } => return ended(
+                Reading::Stopped {
+                    number,
+                    line: n,
+                    column,
+                },
+                filled,
+            ),
             Step::Next(m) => mode = m,
             Step::Add(m, part) => {
                 filled = add_part(parts, filled, part);
@@ -75,9 +102,5 @@ pub fn read_file(file: &[u8], parts: &mut [u64], rows: &mut [u64]) -> FileRead
             }
         }
     }
-    FileRead {
-        reading: at_end(line, mode),
-        parts: filled.parts,
-        rows: filled.rows,
-    }
+    ended(at_end(line, mode), filled)
 }

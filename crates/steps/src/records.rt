@@ -125,14 +125,18 @@ fn less(a: u16, b: u16) -> u16
     a - b
 }
 
+// A word of the open block, at its address from the module's base.
+pub fn word_part(m: Mode, word: CodeWord) -> Part
+    ensures { λ r. ⌜ r ≡ wordPart m word ⌝ }
+{
+    let address = m.block.offset as u32 + less(m.block.count, m.block.remaining) as u32;
+    Part::WordPart { address, word }
+}
+
 pub fn word_step(m: Mode, word: CodeWord) -> Step
     ensures { λ r. ⌜ r ≡ Add (recordDone CodeRecord m) (wordPart m word) ⌝ }
 {
-    let address = m.block.offset as u32 + less(m.block.count, m.block.remaining) as u32;
-    Step::Add(
-        record_done(Expected::CodeRecord, m),
-        Part::WordPart { address, word },
-    )
+    Step::Add(record_done(Expected::CodeRecord, m), word_part(m, word))
 }
 
 pub fn parameter_step(m: Mode, size: u16) -> Step

@@ -17,7 +17,7 @@ use Rattle.text.specs.Values.{numberIn, small}
 use Rattle.text.specs.Digits.{DigitsRead, fieldText, FieldRead}
 use Rattle.text.specs.declared.numbers.DigitRun.{DigitRun}
 use Rattle.text.specs.declared.numbers.Number.{Number}
-use Rattle.text.proofs.ScanLaws.{part-nil, part-cons, part-all, length-part, past-end, past-stop, past-step, all-stop, between-yes, and-false, too-short, too-long}
+use Rattle.text.proofs.ScanLaws.{part-nil, part-cons, part-all, length-part, all-part, past-end, past-stop, past-step, past-over, all-stop, between-yes, and-false, too-short, too-long}
 
 -- ---- the loop
 
@@ -145,15 +145,6 @@ module _ (f : List ℕ) {r : DigitRun} (d : DigitsRead 0 (length f) f r) where
 
 -- ---- the field
 
--- a digit in front: no space is passed over
-octal-first : (b : ℕ) (l : List ℕ) → all isOctal (b ∷ l) ≡ true → isOctal b ≡ true
-unfolding all
-octal-first b l e = go (isOctal b) e
-  where
-    go : (t : Bool) → t && all isOctal l ≡ true → t ≡ true
-    go true h = refl
-    go false h = h
-
 octal-low : (b : ℕ) → isOctal b ≡ true → 48 ≤ b
 octal-low b e = leb-true 48 b (go (leb 48 b) e)
   where
@@ -161,21 +152,39 @@ octal-low b e = leb-true 48 b (go (leb 48 b) e)
     go true h = refl
     go false h = h
 
+octal-no-space : (b : ℕ) → isOctal b ≡ true → isNot space b ≡ true
+octal-no-space b e = digit-no-space b (octal-low b e)
+
+-- the same digits of a line that stops earlier, but not before them
+pub digits-nearer :
+    {at stop nearer : ℕ} {file : List ℕ} {r : DigitRun} → DigitsRead at stop file r → stop ≤ length file → r .end ≤ nearer
+    → nearer ≤ stop → DigitsRead at nearer file r
+digits-nearer {at} {stop} {nearer} {file} {r} d h f g =
+    record {
+      from = d .from;
+      to = f;
+      few = d .few;
+      digits = d .digits;
+      value = d .value;
+      stops = λ a b. d .stops (omega arith) b;
+      field = past-over (isNot space) isOctal octal-no-space at (r .end) nearer file (d .from) f (omega arith) (d .digits);
+    }
+
 module _ {at stop : ℕ} {file : List ℕ} {r : DigitRun} (h : InFile at stop file) (d : DigitsRead at stop file r)
     (some-digit : r .end ≡ at → ⊥) where
   more : at < r .end
   more = omega (arith, d .from)
 
-  first-low : 48 ≤ getD file at 0
-  first-low =
-      let cons = part-cons at (r .end) file more (omega (arith, d .to, h .size)) in
-      octal-low _ (octal-first _ _ (ap (all isOctal) (sym cons) ∙ d .digits))
+  -- each of its bytes is a digit
+  pub digit-low : (k : ℕ) → at ≤ k → k < r .end → 48 ≤ getD file k 0
+  digit-low k f g =
+      octal-low _ (all-part isOctal at (r .end) k file (d .digits) f g (omega (arith, d .to, h .size)))
 
-  starts-here : fieldStart at stop file ≡ at
+  pub starts-here : fieldStart at stop file ≡ at
   unfolding fieldStart
   starts-here =
       past-stop isSpace at stop file (omega (arith, more, d .to)) (h .size)
-      (ne-eqb (getD file at 0) space (λ e. omega (arith, first-low)))
+      (ne-eqb (getD file at 0) space (λ e. omega (arith, digit-low at (omega arith) more)))
 
   module _ (ends : past (isNot space) (r .end) stop file ≡ r .end) where
     stops-here : fieldStop at stop file ≡ r .end

@@ -6,12 +6,13 @@ use native.Mathlib.Numerals.{add-one}
 use native.Mathlib.Omega.{arith}
 use mathlib.Core.Bool.{Bool, true, false, cond, _&&_}
 use mathlib.Core.List.{List, [], _∷_}
-use mathlib.Core.Path.{_≡_, refl, sym, ap₂, _∙_}
+use mathlib.Core.Path.{_≡_, refl, sym, ap, ap₂, _∙_}
 use lib.ListN.{length, take, drop, getD, length-take, length-drop, drop-of-length-le}
-use lib.Seq.{drop-cons, take-length, take-take, drop-drop, take-nil}
+use lib.Seq.{drop-cons, take-length, take-take, drop-drop, take-nil, getD-take, getD-drop}
 use lib.Dec.{leb}
 use borrow.Author.Tests.{le-leb, lt-leb}
 use Rattle.rules.specs.Text.{between, all}
+use Rattle.rules.proofs.TestLaws.{all-first, all-rest, all-at}
 use Rattle.text.specs.Scan.{part, run, past, Found}
 
 -- ---- parts
@@ -30,6 +31,14 @@ part-cons i e l h g =
 pub length-part : (i e : ℕ) (l : List ℕ) → e ≤ length l → length (part i e l) ≡ e - i
 unfolding part
 length-part i e l h = simp (length-take, length-drop) (omega arith)
+
+-- a byte of a part is one of the text
+pub all-part : (p : ℕ → Bool) (i e k : ℕ) (l : List ℕ) → all p (part i e l) ≡ true → i ≤ k → k < e → e ≤ length l → p (getD l k 0) ≡ true
+unfolding part
+all-part p i e k l a h g m =
+    let n : i + (k - i) ≡ k = omega arith in
+    let b : getD (part i e l) (k - i) 0 ≡ getD l k 0 = getD-take (e - i) (drop i l) (k - i) 0 (omega arith) ∙ getD-drop i l (k - i) 0 ∙ ap (λ (j : ℕ). getD l j 0) n in
+    ap p (sym b) ∙ all-at p (part i e l) (k - i) 0 a (omega (arith, length-part i e l m))
 
 pub part-all : (i : ℕ) (l : List ℕ) → part i (length l) l ≡ drop i l
 unfolding part
@@ -137,6 +146,22 @@ module _ (p q : ℕ → Bool) (h : (b : ℕ) → q b ≡ true → p b ≡ true) 
   past-through i e l =
       let k = run q (part i e l) in
       omega (arith, rw (drop-part i e k l) at (run-through (part i e l)))
+
+  -- and over n bytes that the stricter one would pass
+  over : (n i e : ℕ) (l : List ℕ) → i + n ≤ e → e ≤ length l → all q (part i (i + n) l) ≡ true → past p (i + n) e l ≡ past p i e l
+  over zero i e l g m a = let z : i + 0 ≡ i = omega arith in rw z
+  over (suc n) i e l g m a =
+      let k : i + suc n ≡ i + 1 + n = omega arith in
+      let b = ap (all q) (sym (part-cons i (i + suc n) l (omega arith) (omega arith))) ∙ a in
+      ap (λ (j : ℕ). past p j e l) k
+      ∙ over n (i + 1) e l (omega arith) m (ap (λ (j : ℕ). all q (part (i + 1) j l)) (sym k) ∙ all-rest q _ _ b)
+      ∙ past-step p i e l (omega arith) m (h _ (all-first q _ _ b))
+
+  pub past-over : (i s e : ℕ) (l : List ℕ) → i ≤ s → s ≤ e → e ≤ length l → all q (part i s l) ≡ true → past p s e l ≡ past p i e l
+  past-over i s e l f g m a =
+      let k : i + (s - i) ≡ s = omega arith in
+      ap (λ (j : ℕ). past p j e l) (sym k)
+      ∙ over (s - i) i e l (omega arith) m (ap (λ (j : ℕ). all q (part i j l)) k ∙ a)
 
 -- what the loop of a scan keeps at the position i that it has come to
 pub record Scanned (p : ℕ → Bool) (at e : ℕ) (l : List ℕ) (i : ℕ) : Type 0 where

@@ -33,7 +33,7 @@ fn digits_on(at: usize, stop: usize) -> usize
     stop
 }
 
-fn digits(file: &[u8], at: usize, stop: usize) -> DigitRun
+pub fn digits(file: &[u8], at: usize, stop: usize) -> DigitRun
     requires { ⌜ InFile at stop (now file) ⌝ }
     ensures { λ r. ⌜ DigitsRead at stop (now (file .entry)) r ⌝ }
 {

@@ -14,7 +14,7 @@ abbrev μ-loop : tie.MeasureT-loop
 μ-loop file at stop text₀ i₀ k₀ text i k = 4 - k
 
 loop-holds : tie.Need-loop-holds Inv-loop μ-loop
-loop-holds c = quarters-start _ _ _ (c .before .pre .0) (c .before .pre .1)
+loop-holds c = quarters-start _ _ _ (c .before .pre .0)
 
 field-start-requires : tie.Need-field-start-requires Inv-loop μ-loop
 field-start-requires c κs = search needs
@@ -31,7 +31,7 @@ bad-requires c κs = search needs
 returns : tie.Need-returns Inv-loop μ-loop
 returns c =
     quarters-few (c .before .before .before .before .loop .inv) (search needs) (c .before .before .field-start .ensures .is)
-    (c .before .if1 .taken) (c .bad .ensures)
+    (search needs) (c .before .if1 .taken) (c .bad .ensures)
 
 field-number-requires : tie.Need-field-number-requires Inv-loop μ-loop
 field-number-requires c κs = search needs
@@ -77,7 +77,8 @@ returns-2 : tie.Need-returns-2 Inv-loop μ-loop
 returns-2 c =
     let p = c .before .before .before in
     quarters-wrong (p .before .before .before .before .loop .inv) (search needs)
-    (p .before .before .field-start .ensures .is) (search needs) (p .field-number .ensures) (c .before .enum-told .given .1)
+    (p .before .before .field-start .ensures .is) (search needs) (p .field-number .ensures) (search needs)
+    (c .before .enum-told .given .1)
     (c .bad2 .ensures)
 
 field-start-requires-2 : tie.Need-field-start-requires-2 Inv-loop μ-loop
@@ -95,11 +96,12 @@ bad-requires-3 c κs = search needs
 returns-3 : tie.Need-returns-3 Inv-loop μ-loop
 returns-3 c =
     quarters-many (c .before .before .before .before .loop .inv) (search needs) (c .before .before .field-start2 .ensures .is)
-    (c .before .if2 .taken) (c .bad3 .ensures)
+    (search needs) (c .before .if2 .taken) (c .bad3 .ensures)
 
 returns-4 : tie.Need-returns-4 Inv-loop μ-loop
 returns-4 c =
     quarters-end (c .before .before .before .loop .inv) (search needs) (c .before .field-start2 .ensures .is) (search needs)
+    (search needs)
 
 pub plain-line-spec : {M : Type 1} → statement M
 plain-line-spec =

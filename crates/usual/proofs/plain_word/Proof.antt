@@ -1,0 +1,106 @@
+-- `usual::plain_word` meets its contract: quarter by quarter, and nothing is promised where it declines.
+-- Assumes nothing.
+use Prim.Native.Nat.{_-_}
+use native.Mathlib.Omega.{arith}
+use mathlib.Core.Path.{_∙_}
+use borrow.Author.Needs.{needs}
+use Rattle.usual.proofs.WordLaws.{Front, front-start, nothing-read, front-room, front-step, front-end}
+use Rattle.usual.proofs.plain_word.Statement.{statement}
+use Rattle.usual.proofs.plain_word.Tie as tie
+
+abbrev Inv-loop : tie.InvT-loop
+Inv-loop file at text₀ i₀ k₀ text i k = Front at file text i k
+
+abbrev μ-loop : tie.MeasureT-loop
+μ-loop file at text₀ i₀ k₀ text i k = 4 - k
+
+loop-holds : tie.Need-loop-holds Inv-loop μ-loop
+loop-holds c = front-start _ _ (c .before .pre)
+
+digits-requires : tie.Need-digits-requires Inv-loop μ-loop
+digits-requires c κs = search needs
+
+declined-requires : tie.Need-declined-requires Inv-loop μ-loop
+declined-requires c κs = search needs
+
+returns : tie.Need-returns Inv-loop μ-loop
+returns c = nothing-read (c .declined .ensures)
+
+declined-requires-2 : tie.Need-declined-requires-2 Inv-loop μ-loop
+declined-requires-2 c κs = search needs
+
+returns-2 : tie.Need-returns-2 Inv-loop μ-loop
+returns-2 c = nothing-read (c .declined2 .ensures)
+
+declined-requires-3 : tie.Need-declined-requires-3 Inv-loop μ-loop
+declined-requires-3 c κs = search needs
+
+returns-3 : tie.Need-returns-3 Inv-loop μ-loop
+returns-3 c = nothing-read (c .declined3 .ensures)
+
+shared-slice-read-if4 : tie.Need-shared-slice-read-if4 Inv-loop μ-loop
+shared-slice-read-if4 c = search needs
+
+behind-requires : tie.Need-behind-requires Inv-loop μ-loop
+behind-requires c κs = search needs
+
+declined-requires-4 : tie.Need-declined-requires-4 Inv-loop μ-loop
+declined-requires-4 c κs = search needs
+
+returns-4 : tie.Need-returns-4 Inv-loop μ-loop
+returns-4 c = nothing-read (c .declined4 .ensures)
+
+mul-text : tie.Need-mul-text Inv-loop μ-loop
+mul-text c = omega (arith, front-room (c .before .before .before .before .before .before .before .before .before .loop .inv) (search needs))
+
+cast-text : tie.Need-cast-text Inv-loop μ-loop
+cast-text c = search needs
+
+add-text : tie.Need-add-text Inv-loop μ-loop
+add-text c = omega (arith, front-room (c .before .before .before .before .before .before .before .before .before .before .loop .inv) (search needs))
+
+add-i : tie.Need-add-i Inv-loop μ-loop
+add-i c = search needs
+
+add-k : tie.Need-add-k Inv-loop μ-loop
+add-k c = search needs
+
+loop-less : tie.Need-loop-less Inv-loop μ-loop
+loop-less c = search needs
+
+loop-again : tie.Need-loop-again Inv-loop μ-loop
+loop-again c =
+    let p = c .before .before in
+    let d = p .before .before .before .before .before .before in
+    front-step (d .before .before .loop .inv) (search needs) (d .digits .ensures) (p .before .before .before .before .before .if1 .left)
+    (search needs) (p .before .before .if3 .left) (c .before .if4 .left ∙ p .behind .ensures)
+
+returns-5 : tie.Need-returns-5 Inv-loop μ-loop
+returns-5 c = λ e. front-end (c .before .loop .inv) (search needs)
+
+pub plain-word-spec : {M : Type 1} → statement M
+plain-word-spec =
+    tie.close
+    (tie.spec
+    Inv-loop
+    μ-loop
+    loop-holds
+    digits-requires
+    declined-requires
+    returns
+    declined-requires-2
+    returns-2
+    declined-requires-3
+    returns-3
+    shared-slice-read-if4
+    behind-requires
+    declined-requires-4
+    returns-4
+    mul-text
+    cast-text
+    add-text
+    add-i
+    add-k
+    loop-less
+    loop-again
+    returns-5)
