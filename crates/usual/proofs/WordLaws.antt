@@ -3,7 +3,7 @@
 -- Assumes nothing.
 use Prim.Native.Nat.{ℕ, _+_, _-_, _*_, _^_, _≤_, _<_, min}
 use native.Mathlib.Omega.{arith}
-use mathlib.Core.Bool.{Bool, true, false, true≢false}
+use mathlib.Core.Bool.{Bool, true, false, _||_, true≢false}
 use mathlib.Core.List.{List}
 use mathlib.Core.Option.{some}
 use mathlib.Core.Path.{_≡_, refl, sym, ap, subst, _∙_}
@@ -11,8 +11,8 @@ use lib.ListN.{length, getD}
 use lib.Dec.{eqb, leb, ltb}
 use borrow.Author.Tests.{eq-eqb, ne-eqb, eqb-true, eqb-false, le-leb, leb-true, lt-ltb, le-ltb, ltb-true, ltb-false}
 use Rattle.rules.proofs.TestLaws.{and-left, and-right}
-use Rattle.rules.specs.Text.{LF, space, isOctal, legalFront}
-use Rattle.rules.specs.Line.{codeWord, codeShape, shapeFor, lineOf}
+use Rattle.rules.specs.Text.{LF, CR, space, isOctal, legalFront}
+use Rattle.rules.specs.Line.{codeWord, codeShape, shapeFor, lineOf, lineAnswer}
 use Rattle.rules.specs.declared.line.Expected.{Expected}
 use Rattle.rules.specs.declared.line.Expected.the-variants.{CodeRecord}
 use Rattle.rules.specs.declared.line.LineAnswer.the-variants.{Code}
@@ -25,13 +25,13 @@ use Rattle.text.specs.Digits.{DigitsRead, FieldRead}
 use Rattle.text.specs.declared.numbers.DigitRun.{DigitRun}
 use Rattle.text.specs.declared.numbers.Number.the-variants.{Value}
 use Rattle.text.proofs.ScanLaws.{past-stop, past-step, past-end, past-over, Scanned, scan-start, scan-step, scan-stop, between-yes}
-use Rattle.text.proofs.LineLaws.{front-is, LF-behind, stops-LF}
+use Rattle.text.proofs.LineLaws.{front-is, LF-behind, stops-LF, stops-CRLF}
 use Rattle.text.proofs.NumberLaws.{digits-nearer, digit-low, starts-here, line-ends, space-ends}
 use Rattle.line.specs.Fitting.{lineFields, endColumn}
 use Rattle.line.proofs.PeekLaws.{star-not}
 use Rattle.line.proofs.RecordLaws.{Quarters, quarters-start, quarters-room, quarters-step, quarters-end}
 use Rattle.line.proofs.AnswerLaws.{all-legal, line-shaped, line-whole}
-use Rattle.usual.specs.Words.{behind, WordRead}
+use Rattle.usual.specs.Words.{parts, Ending, by-LF, by-two, LineEnded, WordRead}
 use Rattle.usual.specs.declared.UsualWord.{UsualWord}
 
 -- k quarters are read: the last stopped at `end`, and the next one starts at i
@@ -42,7 +42,7 @@ pub record Front (at : ℕ) (file : List ℕ) (text i k : ℕ) : Type 0 where
   pub from : at ≤ end
   pub inside : i ≤ length file
   pub short : end ≤ at + 7 * k
-  pub parted : 0 < k → getD file end 0 ≡ behind (k - 1)
+  pub parted : 0 < k → parts (k - 1) (getD file end 0) ≡ true
   pub digits-around : 0 < k → (at < end) × ((48 ≤ getD file at 0) × (48 ≤ getD file (end - 1) 0))
   pub legal : Scanned isLegal at (length file) file end
   pub quarters : (stop : ℕ) → end ≤ stop → stop ≤ length file → (4 ≤ k → stop ≡ end) → Quarters at stop file text end k
@@ -63,6 +63,9 @@ front-start at file h =
     }
 
 -- nothing is promised of a line that is declined
+pub nothing-ended : {file : List ℕ} {i text : ℕ} {r : UsualWord} → r .fits ≡ false → r .fits ≡ true → LineEnded file i text r
+nothing-ended e f = absurd (true≢false (sym f ∙ e))
+
 pub nothing-read : {w : Expected} {at : ℕ} {file : List ℕ} {r : UsualWord} → r .fits ≡ false → r .fits ≡ true → WordRead w at file r
 nothing-read e f = absurd (true≢false (sym f ∙ e))
 
@@ -72,13 +75,28 @@ digit-legal b e =
     between-yes 32 126 b (omega (arith, leb-true 48 b (and-left (leb 48 b) _ e)))
     (omega (arith, leb-true b 55 (and-right (leb 48 b) _ e)))
 
-pub behind-space : (k : ℕ) → k < 3 → behind k ≡ space
-unfolding behind
-behind-space k h = simp (lt-ltb k 3 h)
+-- ---- what parts a quarter from what stands behind it
 
-pub behind-last : (k : ℕ) → 3 ≤ k → behind k ≡ LF
-unfolding behind
-behind-last k h = simp (le-ltb k 3 h)
+module _ (k b : ℕ) where
+  pub parts-space : k < 3 → parts k b ≡ eqb b space
+  unfolding parts
+  parts-space h = simp (lt-ltb k 3 h)
+
+  parts-line : 3 ≤ k → parts k b ≡ (eqb b LF || eqb b CR)
+  unfolding parts
+  parts-line h = simp (le-ltb k 3 h)
+
+  pub parts-LF : 3 ≤ k → b ≡ LF → parts k b ≡ eqb b LF
+  parts-LF h e = parts-line h ∙ rw (eq-eqb b LF e)
+
+  pub parts-CR : 3 ≤ k → (b ≡ LF → ⊥) → parts k b ≡ eqb b CR
+  parts-CR h n = parts-line h ∙ rw (ne-eqb b LF n)
+
+  a-space : k < 3 → parts k b ≡ true → b ≡ space
+  a-space h e = eqb-true b space (sym (parts-space h) ∙ e)
+
+  a-CR : 3 ≤ k → parts k b ≡ true → (b ≡ LF → ⊥) → b ≡ CR
+  a-CR h e n = eqb-true b CR (sym (parts-CR h n) ∙ e)
 
 module _ {at : ℕ} {file : List ℕ} {text i k : ℕ} (q : Front at file text i k) where
   -- ---- one quarter more
@@ -100,7 +118,7 @@ module _ {at : ℕ} {file : List ℕ} {text i k : ℕ} (q : Front at file text i
 
     -- a space stands between the quarters
     gap : (0 < k) → getD file (q .end) 0 ≡ space
-    gap p = q .parted p ∙ behind-space (k - 1) (omega arith)
+    gap p = a-space (k - 1) _ (omega arith) (q .parted p)
 
     -- bytes of a sort that spaces and digits have
     passed : (p : ℕ → Bool) → p space ≡ true → ((b : ℕ) → isOctal b ≡ true → p b ≡ true) → past p (r .end) (length file) file ≡ past p (q .end) (length file) file
@@ -135,7 +153,7 @@ module _ {at : ℕ} {file : List ℕ} {text i k : ℕ} (q : Front at file text i
             ∙ ap (λ (j : ℕ). past isSpace j stop file) n
             ∙ past-step isSpace (q .end) stop file (omega (arith, more)) g (eq-eqb _ space (gap (omega arith)))
 
-    module _ (most : r .value ≤ 65535) (ended : r .end ≡ length file → ⊥) (b : getD file (r .end) 0 ≡ behind k) where
+    module _ (most : r .value ≤ 65535) (ended : r .end ≡ length file → ⊥) (b : parts k (getD file (r .end) 0) ≡ true) where
       -- what stands between i and the end is a field, wherever the line stops
       field : (stop : ℕ) → r .end ≤ stop → stop ≤ length file → (4 ≤ k + 1 → stop ≡ r .end) → FieldRead i stop file (record { number = Value (r .value); end = r .end })
       field stop f g last = go (eqb (r .end) stop) refl
@@ -153,7 +171,7 @@ module _ {at : ℕ} {file : List ℕ} {text i k : ℕ} (q : Front at file text i
           go true e = line-ends inside nearer some-digit (eqb-true _ _ e) value
           go false e =
               let ne = eqb-false _ _ e in
-              space-ends inside nearer some-digit ne (b ∙ behind-space k (k-small ne)) value
+              space-ends inside nearer some-digit ne (a-space k _ (k-small ne) b) value
             where
               k-small : (r .end ≡ stop → ⊥) → k < 3
               k-small ne = decide (ltb k 3) refl
@@ -171,7 +189,7 @@ module _ {at : ℕ} {file : List ℕ} {text i k : ℕ} (q : Front at file text i
             from = omega (arith, q .from, q .next, more);
             inside = omega (arith, d .to);
             short = omega (arith, q .short, q .next, d .few);
-            parted = λ p. let n : k + 1 - 1 ≡ k = omega arith in b ∙ ap behind (sym n);
+            parted = λ p. let n : k + 1 - 1 ≡ k = omega arith in rw n b;
             digits-around = λ p. (omega (arith, q .from, q .next, more), (first-low, low (r .end - 1) (omega (arith, more)) (omega (arith, more))));
             legal =
                 record {
@@ -202,35 +220,21 @@ module _ {at : ℕ} {file : List ℕ} {text i k : ℕ} (q : Front at file text i
     around : (at < q .end) × ((48 ≤ getD file at 0) × (48 ≤ getD file (q .end - 1) 0))
     around = q .digits-around (omega arith)
 
-    line-feed : getD file (q .end) 0 ≡ LF
-    line-feed = q .parted (omega arith) ∙ behind-last (k - 1) (omega arith)
-
     before : q .end < length file
     before = omega (arith, q .next, q .inside)
 
+    last : i - 1 ≡ q .end
+    last = omega (arith, q .next)
+
+    pub front-behind : (0 < i) × (i ≤ length file)
+    front-behind = (omega (arith, q .next), q .inside)
+
+    -- the byte behind the last quarter
+    abbrev byte : ℕ
+    byte = getD file (q .end) 0
+
     whole : InFile at (q .end) file
     whole = record { order = q .from; size = omega (arith, before) }
-
-    -- the LF is the first byte that is not legal
-    illegal : Found at (length file) (legalEnd at (length file) file) (q .end)
-    unfolding legalEnd
-    illegal = scan-stop (q .legal) before (ap isLegal line-feed)
-
-    ends-line : Found at (length file) (past (isNot LF) at (length file) file) (q .end)
-    ends-line =
-        LF-behind at (q .end) (q .end) file illegal
-        (record {
-          is = sym (past-stop (isNot LF) (q .end) (length file) file before (omega arith) (ap (isNot LF) line-feed));
-          least = omega arith;
-          most = omega (arith, before);
-        })
-
-    front : ℕ
-    front = legalFront 80 (part at (q .end) file)
-
-    all-front : q .end - at ≤ front
-    unfolding front
-    all-front = omega (arith, front-is at (q .end) (q .end) file (q .from) (omega (arith, before)) illegal, q .short, q .few)
 
     starts-line : at ≡ fieldStart at (q .end) file
     unfolding fieldStart
@@ -252,14 +256,69 @@ module _ {at : ℕ} {file : List ℕ} {text i k : ℕ} (q : Front at file text i
         (omega arith))
         refl
 
-    pub front-end : WordRead CodeRecord at file (record { fits = true; text = text; next = i })
-    unfolding front
-    front-end =
+    -- where that byte is not legal, the line's bytes are
+    module _ (bad : isLegal byte ≡ false) where
+      illegal : Found at (length file) (legalEnd at (length file) file) (q .end)
+      unfolding legalEnd
+      illegal = scan-stop (q .legal) before bad
+
+      front : ℕ
+      front = legalFront 80 (part at (q .end) file)
+
+      all-front : q .end - at ≤ front
+      unfolding front
+      all-front = omega (arith, front-is at (q .end) (q .end) file (q .from) (omega (arith, before)) illegal, q .short, q .few)
+
+      says : Code (codeWord text Plain) ≡ lineAnswer CodeRecord (part at (q .end) file)
+      unfolding front
+      says = line-whole CodeRecord whole refl fields-say (all-legal front (q .end - at) _ all-front)
+
+      -- the line's LF stands at lf
+      ends-line : (lf : ℕ) → q .end ≤ lf → lf < length file → past (isNot LF) (q .end) (length file) file ≡ lf
+          → Found at (length file) (past (isNot LF) at (length file) file) lf
+      ends-line lf f g e =
+          LF-behind at (q .end) lf file illegal (record { is = sym e; least = f; most = omega arith })
+
+    word-is : {x : ℕ} → x ≡ text → Code (codeWord x Plain) ≡ Code (codeWord text Plain)
+    word-is = ap (λ (x : ℕ). Code (codeWord x Plain))
+
+    word-LF : {r : UsualWord} → r .text ≡ text → byte ≡ LF → r .next ≡ i → WordRead CodeRecord at file r
+    word-LF w e n =
+        let bad = ap isLegal e in
+        let stops = past-stop (isNot LF) (q .end) (length file) file before (omega arith) (ap (isNot LF) e) in
         record {
-          span = record { stop = q .end; next = q .end + 1; front = front };
+          span = record { stop = q .end; next = q .end + 1; front = legalFront 80 (part at (q .end) file) };
           line =
-              stops-LF at (q .end) file ends-line before (λ e. omega (arith, around .0))
-              (λ e. omega (arith, around .1 .1)) refl;
+              stops-LF at (q .end) file (ends-line bad (q .end) (omega arith) before stops) before (λ x. omega (arith, around .0))
+              (λ x. omega (arith, around .1 .1)) refl;
           follows = omega (arith, q .next);
-          says = line-whole CodeRecord whole refl fields-say (all-legal front (q .end - at) _ all-front);
+          says = word-is w ∙ says bad;
         }
+
+    word-CRLF :
+        {r : UsualWord} → r .text ≡ text → (byte ≡ LF → ⊥) → i < length file → getD file i 0 ≡ LF → r .next ≡ i + 1
+        → WordRead CodeRecord at file r
+    word-CRLF w x g f n =
+        let e : byte ≡ CR = a-CR (k - 1) byte (omega arith) (q .parted (omega arith)) x in
+        let bad = ap isLegal e in
+        let behind : i ≡ q .end + 1 = omega (arith, q .next) in
+        let stops =
+        sym (past-step (isNot LF) (q .end) (length file) file before (omega arith) (ap (isNot LF) e))
+        ∙ ap (λ (j : ℕ). past (isNot LF) j (length file) file) (sym behind)
+        ∙ past-stop (isNot LF) i (length file) file g (omega arith) (ap (isNot LF) f) in
+        let one : i - 1 ≡ q .end = omega arith in
+        record {
+          span = record { stop = i - 1; next = i + 1; front = legalFront 80 (part at (i - 1) file) };
+          line =
+              stops-CRLF at i file (ends-line bad i (omega arith) g stops) g (λ y. omega (arith, around .0))
+              (ap (λ (j : ℕ). getD file j 0) one ∙ e) refl;
+          follows = omega arith;
+          says = word-is w ∙ rw one (says bad);
+        }
+
+    pub front-end : {r : UsualWord} → (r .fits ≡ true → LineEnded file i text r) → r .fits ≡ true → WordRead CodeRecord at file r
+    front-end {r} f t = go (f t .ends)
+      where
+        go : Ending file i (r .next) → WordRead CodeRecord at file r
+        go (by-LF e n) = word-LF (f t .kept) (rw last at e) n
+        go (by-two x g e n) = word-CRLF (f t .kept) (λ y. x (ap (λ (j : ℕ). getD file j 0) last ∙ y)) g e n

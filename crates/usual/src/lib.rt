@@ -1,16 +1,17 @@
 // Records in their usual form, read in one pass. Most lines of a file are code records of four numbers with one space between them and
-// an LF behind the last. A line in any other form is declined, and then read as every line can be: nothing is told of faults here.
+// the line's end behind the last. A line in any other form is declined, and then read as every line can be: nothing is told of faults here.
 use rules::limits::LARGEST_NUMBER;
 use rules::line::Expected;
 use text::numbers::digits;
+use text::scan::CR;
 use text::scan::LF;
 use text::scan::SPACE;
 ghost use mathlib.Core.Bool.{true, false};
 ghost use mathlib.Core.Path.{_≡_};
-ghost use Prim.Native.Nat.{_≤_};
+ghost use Prim.Native.Nat.{_≤_, _<_};
 ghost use lib.ListN.{length};
 ghost use Rattle.rules.specs.declared.line.Expected.the-variants.{CodeRecord};
-ghost use Rattle.usual.specs.Words.{behind, WordRead};
+ghost use Rattle.usual.specs.Words.{parts, LineEnded, WordRead};
 
 // The word of a code record without a relocation, and where the next line starts; or nothing, where `fits` is false.
 pub struct UsualWord {
@@ -29,14 +30,39 @@ fn declined() -> UsualWord
     }
 }
 
-// The byte behind quarter k.
-fn behind(k: usize) -> u8
-    ensures { λ r. ⌜ r ≡ behind k ⌝ }
+// Does the byte part quarter k from what stands behind it? A CR may begin the line's end.
+fn parts(k: usize, byte: u8) -> bool
+    ensures { λ r. ⌜ r ≡ parts k byte ⌝ }
 {
     if k < 3 {
-        return SPACE;
+        return byte == SPACE;
     }
-    LF
+    byte == LF || byte == CR
+}
+
+// Four quarters are read, and an LF or a CR stands before i. A CR ends no line without an LF.
+fn line_ended(file: &[u8], i: usize, text: u64) -> UsualWord
+    requires { ⌜ (0 < i) × (i ≤ length (now file)) ⌝ }
+    ensures { λ r. ⌜ (r .fits ≡ true → LineEnded (now (file .entry)) i text r) ⌝ }
+{
+    if file[i - 1] == LF {
+        return UsualWord {
+            fits: true,
+            text,
+            next: i,
+        };
+    }
+    if i == file.len() {
+        return declined();
+    }
+    if file[i] == LF {
+        return UsualWord {
+            fits: true,
+            text,
+            next: i + 1,
+        };
+    }
+    declined()
 }
 
 fn plain_word(file: &[u8], at: usize) -> UsualWord
@@ -58,18 +84,14 @@ fn plain_word(file: &[u8], at: usize) -> UsualWord
         if end == file.len() {
             return declined();
         }
-        if file[end] != behind(k) {
+        if !parts(k, file[end]) {
             return declined();
         }
         text = text * 65536 + run.value as u64;
         i = end + 1;
         k += 1;
     }
-    UsualWord {
-        fits: true,
-        text,
-        next: i,
-    }
+    line_ended(file, i, text)
 }
 
 // The line at `at`, where a code record is expected and it has the usual form.

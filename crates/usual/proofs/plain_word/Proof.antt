@@ -2,9 +2,10 @@
 -- Assumes nothing.
 use Prim.Native.Nat.{_-_}
 use native.Mathlib.Omega.{arith}
-use mathlib.Core.Path.{_∙_}
+use mathlib.Core.Path.{sym, _∙_}
 use borrow.Author.Needs.{needs}
-use Rattle.usual.proofs.WordLaws.{Front, front-start, nothing-read, front-room, front-step, front-end}
+use borrow.Author.Tests.{not-false}
+use Rattle.usual.proofs.WordLaws.{Front, front-start, nothing-read, front-room, front-step, front-behind, front-end}
 use Rattle.usual.proofs.plain_word.Statement.{statement}
 use Rattle.usual.proofs.plain_word.Tie as tie
 
@@ -38,11 +39,11 @@ declined-requires-3 c κs = search needs
 returns-3 : tie.Need-returns-3 Inv-loop μ-loop
 returns-3 c = nothing-read (c .declined3 .ensures)
 
-shared-slice-read-if4 : tie.Need-shared-slice-read-if4 Inv-loop μ-loop
-shared-slice-read-if4 c = search needs
+shared-slice-read-parts : tie.Need-shared-slice-read-parts Inv-loop μ-loop
+shared-slice-read-parts c = search needs
 
-behind-requires : tie.Need-behind-requires Inv-loop μ-loop
-behind-requires c κs = search needs
+parts-requires : tie.Need-parts-requires Inv-loop μ-loop
+parts-requires c κs = search needs
 
 declined-requires-4 : tie.Need-declined-requires-4 Inv-loop μ-loop
 declined-requires-4 c κs = search needs
@@ -73,10 +74,13 @@ loop-again c =
     let p = c .before .before in
     let d = p .before .before .before .before .before .before in
     front-step (d .before .before .loop .inv) (search needs) (d .digits .ensures) (p .before .before .before .before .before .if1 .left)
-    (search needs) (p .before .before .if3 .left) (c .before .if4 .left ∙ p .behind .ensures)
+    (search needs) (p .before .before .if3 .left) (sym (p .parts .ensures) ∙ not-false _ (c .before .if4 .left))
+
+line-ended-requires : tie.Need-line-ended-requires Inv-loop μ-loop
+line-ended-requires c κs = front-behind (c .before .loop .inv) (search needs)
 
 returns-5 : tie.Need-returns-5 Inv-loop μ-loop
-returns-5 c = λ e. front-end (c .before .loop .inv) (search needs)
+returns-5 c = front-end (c .before .before .loop .inv) (search needs) (c .line-ended .ensures)
 
 pub plain-word-spec : {M : Type 1} → statement M
 plain-word-spec =
@@ -92,8 +96,8 @@ plain-word-spec =
     returns-2
     declined-requires-3
     returns-3
-    shared-slice-read-if4
-    behind-requires
+    shared-slice-read-parts
+    parts-requires
     declined-requires-4
     returns-4
     mul-text
@@ -103,4 +107,5 @@ plain-word-spec =
     add-k
     loop-less
     loop-again
+    line-ended-requires
     returns-5)
