@@ -23,6 +23,7 @@ use usual::usual_word;
 ghost use mathlib.Core.Path.{_≡_};
 ghost use Rattle.rules.specs.Line.{codeWord};
 ghost use Rattle.rules.specs.declared.line.Relocation.the-variants.{Plain};
+ghost use Rattle.rules.specs.declared.reading.Reading.the-variants.{Stopped};
 ghost use Rattle.reading.specs.Filling.{fileRead, Lent, ReadInto};
 
 // What reading a file came to, and how many parts and rows stand in the tables.
@@ -32,7 +33,7 @@ pub struct FileRead {
     pub rows: usize,
 }
 
-// The tables stand as they are filled.
+// What the reading came to, with the tables as they are filled.
 fn ended(reading: Reading, filled: Filled) -> FileRead
     ensures { λ r. ⌜ r ≡ fileRead reading filled ⌝ }
 {
@@ -41,6 +42,20 @@ fn ended(reading: Reading, filled: Filled) -> FileRead
         parts: filled.parts,
         rows: filled.rows,
     }
+}
+
+// A fault at line n.
+fn stopped(number: u64, n: u32, column: usize, filled: Filled) -> FileRead
+    ensures { λ r. ⌜ r ≡ fileRead (Stopped number n column) filled ⌝ }
+{
+    ended(
+        Reading::Stopped {
+            number,
+            line: n,
+            column,
+        },
+        filled,
+    )
 }
 
 // A code word without a relocation.
@@ -53,7 +68,8 @@ fn plain(text: u64) -> CodeWord
     }
 }
 
-// Every line is looked at once; what it adds is written at once, so that a fault leaves the tables as they stand there.
+// Every line is looked at once; what it adds is written at once, so that a fault leaves the tables as they stand there. A code word in
+// its usual form needs no step built for it: most lines are such.
 pub fn read_file(file: &[u8], parts: &mut [u64], rows: &mut [u64]) -> FileRead
     requires { ⌜ Lent (now file) (now parts) (now rows) ⌝ }
     ensures { λ r. ⌜ ReadInto (now (file .entry)) (now (parts .entry)) (now (rows .entry)) r (now (parts .exit)) (now (rows .exit)) ⌝ }
@@ -79,14 +95,7 @@ pub fn read_file(file: &[u8], parts: &mut [u64], rows: &mut [u64]) -> FileRead
         let step = step_of(n, here, answer);
         at = span.next;
         match step {
-            Step::Stop { number, column } => return ended(
-                Reading::Stopped {
-                    number,
-                    line: n,
-                    column,
-                },
-                filled,
-            ),
+            Step::Stop { number, column } => return stopped(number, n, column, filled),
             Step::Next(m) => mode = m,
             Step::Add(m, part) => {
                 filled = add_part(parts, filled, part);

@@ -106,8 +106,8 @@ step-of-requires c κs = search needs
 enum-known-step : tie.Need-enum-known-step Inv-loop μ-loop
 enum-known-step c = search needs
 
-ended-requires : tie.Need-ended-requires Inv-loop μ-loop
-ended-requires c κs = search needs
+stopped-requires : tie.Need-stopped-requires Inv-loop μ-loop
+stopped-requires c κs = search needs
 
 same-length : tie.Need-same-length Inv-loop μ-loop
 same-length c =
@@ -122,7 +122,7 @@ same-length-2 c =
 returns : tie.Need-returns Inv-loop μ-loop
 returns c =
     let p = c .before .before .before .before in
-    faulty _ _ _ (p .before .before .before .before .before .before .before .loop .inv) (stepped p (c .before .before .step .given .1)) (c .ended .ensures)
+    faulty _ _ _ (p .before .before .before .before .before .before .before .loop .inv) (stepped p (c .before .before .step .given .1)) (c .stopped .ensures)
 
 enum-known-step-2 : tie.Need-enum-known-step-2 Inv-loop μ-loop
 enum-known-step-2 c = search needs
@@ -188,8 +188,8 @@ loop-again-5 c =
 at-end-requires : tie.Need-at-end-requires Inv-loop μ-loop
 at-end-requires c κs = search needs
 
-ended-requires-2 : tie.Need-ended-requires-2 Inv-loop μ-loop
-ended-requires-2 c κs = search needs
+ended-requires : tie.Need-ended-requires Inv-loop μ-loop
+ended-requires c κs = search needs
 
 same-length-3 : tie.Need-same-length-3 Inv-loop μ-loop
 same-length-3 c =
@@ -203,7 +203,7 @@ same-length-4 c =
 
 returns-2 : tie.Need-returns-2 Inv-loop μ-loop
 returns-2 c =
-    whole _ _ _ (c .before .before .before .loop .inv) (c .before .before .loop-test .left) (c .before .at-end .ensures) (c .ended2 .ensures)
+    whole _ _ _ (c .before .before .before .loop .inv) (c .before .before .loop-test .left) (c .before .at-end .ensures) (c .ended .ensures)
 
 pub read-file-spec : {M : Type 1} → statement M
 read-file-spec =
@@ -227,7 +227,7 @@ read-file-spec =
     line-answer-requires
     step-of-requires
     enum-known-step
-    ended-requires
+    stopped-requires
     same-length
     same-length-2
     returns
@@ -247,7 +247,7 @@ read-file-spec =
     loop-less-5
     loop-again-5
     at-end-requires
-    ended-requires-2
+    ended-requires
     same-length-3
     same-length-4
     returns-2)
