@@ -1,15 +1,17 @@
 -- The fields of a line against the kinds that they have to be, one after the other. The loop keeps: what is left decides.
 -- Assumes nothing.
-use Prim.Native.Nat.{ℕ, zero, suc, _+_, _-_, _≤_, _<_}
+use Prim.Native.Nat.{ℕ, zero, suc, _+_, _-_, _/_, _%_, _^_, _≤_, _<_, suc-le-suc}
 use native.Mathlib.Omega.{arith}
-use mathlib.Core.Bool.{Bool, true, false}
+use mathlib.Core.Bool.{Bool, true, false, cond}
 use mathlib.Core.List.{List, [], _∷_, _++_, map, append-assoc, append-nil}
 use mathlib.Core.Path.{_≡_, refl, sym, ap, ap₂, _∙_}
 use lib.ListN.{length, drop, getD, set, length-set, length-map, drop-of-length-le}
 use lib.Seq.{drop-cons, getD-set-same, getD-set-other}
 use native.Mathlib.Numerals.{add-one}
+use lib.Dec.{eqb}
+use borrow.Author.Tests.{eqb-true, eqb-false}
 use Rattle.rules.specs.Text.{Field, fieldsFrom, fieldsOf}
-use Rattle.rules.specs.Line.{nth, Held, value, wrong, readField, Fitted, fits, misfit, inFront, fit, fault}
+use Rattle.rules.specs.Line.{nth, value, wrong, readField, Fitted, fits, misfit, inFront, fit, fault}
 use Rattle.rules.specs.declared.line.Fault.{Fault}
 use Rattle.rules.specs.declared.line.FaultKind.{FaultKind}
 use Rattle.rules.specs.declared.line.FaultKind.the-variants.{FieldCount}
@@ -18,7 +20,7 @@ use Rattle.rules.specs.declared.line.Kind.the-variants.{Anything}
 use Rattle.text.specs.Scan.{part, InFile}
 use Rattle.text.specs.FieldBounds.{fieldStart, fieldStop}
 use Rattle.text.proofs.FieldLaws.{FieldFound, field, field-found, no-field, start-least, start-most}
-use Rattle.line.specs.Fitting.{kindOf, valueAs, asHeld, valuesOf, asFitted, Misfit, lineFields, fitLine}
+use Rattle.line.specs.Fitting.{kindOf, lettersUpTo, lettersIn, valueAs, asHeld, valuesOf, asFitted, Misfit, lineFields, fitLine}
 use Rattle.line.specs.declared.fields.FieldRead.{FieldRead}
 use Rattle.line.specs.declared.fields.FieldRead.the-variants.{Value, Wrong}
 use Rattle.line.specs.declared.fitting.FieldsRead.{FieldsRead}
@@ -138,64 +140,128 @@ kind-at [] k h = absurd (omega arith)
 kind-at (x ∷ xs) zero h = refl
 kind-at (x ∷ xs) (suc k) h = kind-at xs k (omega arith)
 
--- k fields are read
-pub record Kept (kinds : List ℕ) (at stop : ℕ) (l numbers names : List ℕ) (i k : ℕ) : Type 0 where
+-- ---- the letters of a number
+
+-- these are the bytes of n, the lowest first, up to the last that is not 0
+pub Bytes : List ℕ → ℕ → Type 0
+Bytes [] n = n ≡ 0
+Bytes (x ∷ xs) n = (x ≡ n % 256) × ((n ≡ 0 → ⊥) × Bytes xs (n / 256))
+
+-- the letters are no more than asked for
+letters-few : (most n : ℕ) → length (lettersUpTo most n) ≤ most
+unfolding lettersUpTo
+letters-few zero n = omega arith
+letters-few (suc most) n = go (eqb n 0) (lettersUpTo most (n / 256)) (letters-few most (n / 256))
+  where
+    go : (b : Bool) (xs : List ℕ) → length xs ≤ most → length (cond b [] (n % 256 ∷ xs)) ≤ suc most
+    go true xs h = omega arith
+    go false xs h = omega arith
+
+-- and they are the bytes of n where it has no more
+letters-are : (most n : ℕ) → n < 256 ^ most → Bytes (lettersUpTo most n) n
+unfolding lettersUpTo Bytes
+letters-are zero n h = omega arith
+letters-are (suc most) n h = go (eqb n 0) refl (lettersUpTo most (n / 256)) (letters-are most (n / 256) (omega arith))
+  where
+    go : (b : Bool) → eqb n 0 ≡ b → (xs : List ℕ) → Bytes xs (n / 256) → Bytes (cond b [] (n % 256 ∷ xs)) n
+    go true p xs h = eqb-true n 0 p
+    go false p xs h = (refl, (eqb-false n 0 p, h))
+
+-- some letters are left where the number is not 0
+bytes-some : (kinds : List ℕ) (k : ℕ) {n : ℕ} → Bytes (drop k kinds) n → (n ≡ 0 → ⊥) → k < length kinds
+unfolding Bytes
+bytes-some [] zero b h = absurd (h b)
+bytes-some [] (suc k) b h = absurd (h b)
+bytes-some (x ∷ xs) zero b h = omega arith
+bytes-some (x ∷ xs) (suc k) b h = suc-le-suc (bytes-some xs k b h)
+
+-- and none where it is
+bytes-none : (kinds : List ℕ) (k : ℕ) {n : ℕ} → Bytes (drop k kinds) n → n ≡ 0 → length kinds ≤ k
+unfolding Bytes
+bytes-none [] k b h = omega arith
+bytes-none (x ∷ xs) zero b h = absurd (b .1 .0 h)
+bytes-none (x ∷ xs) (suc k) b h = suc-le-suc (bytes-none xs k b h)
+
+-- ---- the loop's invariant
+
+-- k fields are read, and the letters of the others are left
+pub record Kept (kinds : List ℕ) (at stop : ℕ) (l numbers names : List ℕ) (i k left : ℕ) : Type 0 where
   pub most : k ≤ length kinds
   pub few : length kinds ≤ 8
   pub numbers-size : length numbers ≡ 8
   pub names-size : length names ≡ 8
+  pub others : Bytes (drop k kinds) left
   pub fitting : Fitting (map kindOf kinds) at stop l (valuesOf k (map kindOf kinds) numbers names) (map kindOf (drop k kinds)) i
 
-pub kept-start : (kinds : List ℕ) (at stop : ℕ) (l numbers names : List ℕ) → InFile at stop l → length kinds ≤ 8 →
-    length numbers ≡ 8 → length names ≡ 8 → Kept kinds at stop l numbers names at 0
-unfolding valuesOf
-kept-start kinds at stop l numbers names h few e g =
+pub kept-start : (n at stop : ℕ) (l numbers names : List ℕ) → n < 2 ^ 64 → InFile at stop l → length numbers ≡ 8 →
+    length names ≡ 8 → Kept (lettersIn n) at stop l numbers names at 0 n
+unfolding valuesOf lettersIn
+kept-start n at stop l numbers names b h e g =
     record {
       most = omega arith;
-      few = few;
+      few = letters-few 8 n;
       numbers-size = e;
       names-size = g;
-      fitting = fitting-start (map kindOf kinds) at stop l h;
+      others = letters-are 8 n b;
+      fitting = fitting-start (map kindOf (lettersIn n)) at stop l h;
     }
 
 as-misfit : (ks : List Kind) {j : FaultKind} {c : ℕ} {r : FieldsRead} → Misfit j c r → asFitted ks r ≡ misfit (fault j c)
 unfolding asFitted
 as-misfit ks m = rw (m .fits-not, m .fault-is)
 
-module _ {kinds : List ℕ} {at stop : ℕ} {l numbers names : List ℕ} {i k : ℕ} (q : Kept kinds at stop l numbers names i k) where
+module _ {kinds : List ℕ} {at stop : ℕ} {l numbers names : List ℕ} {i k left : ℕ} (q : Kept kinds at stop l numbers names i k left) where
   abbrev Fits : FieldsRead → Type 0
   Fits r = asFitted (map kindOf kinds) r ≡ fitLine (map kindOf kinds) at stop l
 
-  module _ (h : k < length kinds) {s : ℕ} (e : s ≡ fieldStart i stop l) where
-    next : Fitting (map kindOf kinds) at stop l (valuesOf k (map kindOf kinds) numbers names) (kindOf (nth kinds k) ∷ map kindOf (drop (suc k) kinds)) i
-    next = rw (drop-cons kinds k 0 h) at (q .fitting)
+  module _ (h : left ≡ 0 → ⊥) where
+    more : k < length kinds
+    more = bytes-some kinds k (q .others) h
 
-    pub kept-few : s ≡ stop → {r : FieldsRead} → Misfit FieldCount (stop - at + 1) r → Fits r
-    unfolding fitLine
-    kept-few g m = as-misfit (map kindOf kinds) m ∙ fitting-few s e next g
+    -- there is room for another
+    pub kept-room : k < 8
+    kept-room = omega (arith, more, q .few)
 
-    module _ (g : s < stop) {t : List ℕ} (b : t ≡ part (fieldStart s stop l) (fieldStop s stop l) l)
-        {f : FieldRead} (a : asHeld (kindOf (nth kinds k)) f ≡ readField (kindOf (nth kinds k)) t) where
-      pub kept-wrong : {j : FaultKind} → f ≡ Wrong j → {r : FieldsRead} → Misfit j (s - at + 1) r → Fits r
-      unfolding asHeld fitLine
-      kept-wrong w m = as-misfit (map kindOf kinds) m ∙ fitting-wrong s e next g t b (rw w at a)
+    these : Bytes (nth kinds k ∷ drop (suc k) kinds) left
+    these = rw (drop-cons kinds k 0 more) at (q .others)
 
-      pub kept-step : {x y : ℕ} → f ≡ Value x y → Kept kinds at stop l (set numbers k x) (set names k y) (s + length t) (k + 1)
-      unfolding asHeld
-      kept-step {x} {y} v =
-          record {
-            most = omega arith;
-            few = q .few;
-            numbers-size = length-set numbers k x ∙ q .numbers-size;
-            names-size = length-set names k y ∙ q .names-size;
-            fitting = rw (add-one, values-more (map kindOf kinds) numbers names k x y (omega (arith, q .numbers-size, q .few)) (omega (arith, q .names-size, q .few)), kind-at kinds k h) (fitting-step s e next g t b (rw v at a));
-          }
+    letter : nth kinds k ≡ left % 256
+    unfolding Bytes
+    letter = these .0
 
-  module _ (h : length kinds ≤ k) {s : ℕ} (e : s ≡ fieldStart i stop l) where
+    module _ {s : ℕ} (e : s ≡ fieldStart i stop l) where
+      next : Fitting (map kindOf kinds) at stop l (valuesOf k (map kindOf kinds) numbers names) (kindOf (left % 256) ∷ map kindOf (drop (suc k) kinds)) i
+      next = rw (drop-cons kinds k 0 more, letter) at (q .fitting)
+
+      pub kept-few : s ≡ stop → {r : FieldsRead} → Misfit FieldCount (stop - at + 1) r → Fits r
+      unfolding fitLine
+      kept-few g m = as-misfit (map kindOf kinds) m ∙ fitting-few s e next g
+
+      module _ (g : s < stop) {t : List ℕ} (b : t ≡ part (fieldStart s stop l) (fieldStop s stop l) l)
+          {f : FieldRead} (a : asHeld (kindOf (left % 256)) f ≡ readField (kindOf (left % 256)) t) where
+        pub kept-wrong : {j : FaultKind} → f ≡ Wrong j → {r : FieldsRead} → Misfit j (s - at + 1) r → Fits r
+        unfolding asHeld fitLine
+        kept-wrong w m = as-misfit (map kindOf kinds) m ∙ fitting-wrong s e next g t b (rw w at a)
+
+        pub kept-step : {x y : ℕ} → f ≡ Value x y →
+            Kept kinds at stop l (set numbers k x) (set names k y) (s + length t) (k + 1) (left / 256)
+        unfolding asHeld Bytes
+        kept-step {x} {y} v =
+            record {
+              most = omega (arith, more);
+              few = q .few;
+              numbers-size = length-set numbers k x ∙ q .numbers-size;
+              names-size = length-set names k y ∙ q .names-size;
+              others = rw add-one (these .1 .1);
+              fitting = rw (add-one, values-more (map kindOf kinds) numbers names k x y (omega (arith, q .numbers-size, kept-room)) (omega (arith, q .names-size, kept-room)), kind-at kinds k more, letter) (fitting-step s e next g t b (rw v at a));
+            }
+
+  module _ (h : left ≡ 0) {s : ℕ} (e : s ≡ fieldStart i stop l) where
     last : Fitting (map kindOf kinds) at stop l (valuesOf (length (map kindOf kinds)) (map kindOf kinds) numbers names) [] i
     last =
-        let m : k ≡ length (map kindOf kinds) = omega (arith, q .most, length-map kinds kindOf) in
-        rw (drop-of-length-le kinds h, m) at (q .fitting)
+        let none = bytes-none kinds k (q .others) h in
+        let m : k ≡ length (map kindOf kinds) = omega (arith, none, q .most, length-map kinds kindOf) in
+        rw (drop-of-length-le kinds none, m) at (q .fitting)
 
     pub kept-many : s < stop → {r : FieldsRead} → Misfit FieldCount (s - at + 1) r → Fits r
     unfolding fitLine

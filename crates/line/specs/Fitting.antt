@@ -1,5 +1,5 @@
 -- What is read of fields, as the rules have it. The code keeps numbers and names apart, by their types; the rules keep one list of values.
-use Prim.Native.Nat.{ℕ, zero, suc, _+_, _-_, _%_, _≤_}
+use Prim.Native.Nat.{ℕ, zero, suc, _+_, _-_, _/_, _%_, _≤_}
 use mathlib.Core.Bool.{false, cond}
 use mathlib.Core.List.{List, [], _∷_, _++_}
 use mathlib.Core.Path.{_≡_}
@@ -33,6 +33,15 @@ kindOf k =
     (cond (eqb k 114) (Number 1 5 BadType)
     (cond (eqb k 116) (Number 0 1 BadType)
     (cond (eqb k 115) (Number 0 7 BadNumber) (Marker (k % 65))))))))
+
+-- the bytes of n, the lowest first, up to the last that is not 0, and at most that many
+unfoldable pub lettersUpTo : ℕ → ℕ → List ℕ
+lettersUpTo zero n = []
+lettersUpTo (suc most) n = cond (eqb n 0) [] (n % 256 ∷ lettersUpTo most (n / 256))
+
+-- the letters of a line's kinds, which the code keeps in one number: the first field's is its lowest byte
+unfoldable pub lettersIn : ℕ → List ℕ
+lettersIn n = lettersUpTo 8 n
 
 -- the answer of `read_field`
 unfoldable pub asHeld : Kind → FieldRead → Held

@@ -9,12 +9,10 @@ use text::fields::field_start;
 ghost use mathlib.Core.Bool.{cond};
 ghost use mathlib.Core.List.{map};
 ghost use mathlib.Core.Path.{_≡_};
-ghost use Prim.Native.Nat.{_≤_};
-ghost use lib.ListN.{length};
 ghost use Rattle.rules.specs.declared.line.LineAnswer.the-variants.{Bad};
 ghost use Rattle.rules.specs.Line.{fault};
 ghost use Rattle.text.specs.Scan.{InFile};
-ghost use Rattle.line.specs.Fitting.{kindOf, asFitted, fitLine, Misfit};
+ghost use Rattle.line.specs.Fitting.{kindOf, lettersIn, asFitted, fitLine, Misfit};
 
 // What the fields hold, each at its index, or the leftmost fault among them.
 pub struct FieldsRead {
@@ -35,28 +33,30 @@ fn misfit(kind: FaultKind, column: usize) -> FieldsRead
     }
 }
 
-// The fields of the line, which have to be of these kinds and no more.
-pub fn fit(file: &[u8], at: usize, stop: usize, kinds: &[u8]) -> FieldsRead
+// The fields of the line, which have to be of these kinds and no more. The kinds are letters, one in each byte, the first field's
+// lowest; `left` has those of the fields that are not read yet.
+pub fn fit(file: &[u8], at: usize, stop: usize, kinds: u64) -> FieldsRead
     requires { ⌜ InFile at stop (now file) ⌝ }
-    requires { ⌜ length (now kinds) ≤ 8 ⌝ }
-    ensures { λ r. ⌜ asFitted (map kindOf (now (kinds .entry))) r ≡ fitLine (map kindOf (now (kinds .entry))) at stop (now (file .entry)) ⌝ }
+    ensures { λ r. ⌜ asFitted (map kindOf (lettersIn kinds)) r ≡ fitLine (map kindOf (lettersIn kinds)) at stop (now (file .entry)) ⌝ }
 {
     let mut numbers = [0u16; 8];
     let mut names = [0u64; 8];
     let mut i = at;
     let mut k = 0;
-    while k < kinds.len() {
+    let mut left = kinds;
+    while left != 0 {
         let start = field_start(file, i, stop);
         if start == stop {
             return misfit(FaultKind::FieldCount, stop - at + 1);
         }
         let field = field_from(file, start, stop);
-        match read_field(field, kinds[k]) {
+        match read_field(field, (left % 256) as u8) {
             FieldRead::Value { number, name } => {
                 numbers[k] = number;
                 names[k] = name;
                 i = start + field.len();
                 k += 1;
+                left /= 256;
             }
             FieldRead::Wrong(fault) => return misfit(fault, start - at + 1),
         }

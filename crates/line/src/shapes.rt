@@ -7,13 +7,12 @@ use rules::line::Entry;
 use rules::line::Header;
 use rules::line::LineAnswer;
 use rules::line::Relocation;
-use text::scan::position;
-ghost use mathlib.Core.List.{List};
+ghost use mathlib.Core.List.{List, map};
 ghost use mathlib.Core.Path.{_≡_};
 ghost use Prim.Native.Nat.{ℕ, _<_};
 ghost use Rattle.rules.specs.Line.{nth, wordOf, relocationOf};
 ghost use Rattle.text.specs.Scan.{InFile};
-ghost use Rattle.line.specs.Fitting.{endColumn, lineFields};
+ghost use Rattle.line.specs.Fitting.{kindOf, lettersIn, endColumn, lineFields};
 ghost use Rattle.line.specs.Shapes.{rowShape, shapeOf, shapeLine, saidBy};
 ghost use Rattle.rules.specs.declared.line.LineAnswer.the-variants.{Head, Entered};
 ghost use Rattle.rules.specs.Line.{rowOf, entry};
@@ -109,33 +108,37 @@ fn answer(shape: usize, n: [u16; 8], name: u64) -> LineAnswer
     }
 }
 
-// Where the kinds of each shape start among all kinds: they stop where the next ones start. No block has code 2.
-// A table is built anew at each use: bytes are quicker than numbers.
-const STARTS: [u8; 23] = [
-    0,
-    4,
-    6,
-    6,
-    8,
-    11,
-    14,
-    16,
-    18,
-    23,
-    26,
-    29,
-    32,
-    40,
-    44,
-    47,
-    48,
-    49,
-    50,
-    52,
-    57,
-    60,
-    62,
-];
+// The kinds of a shape's fields, a letter in each byte. The first field's stands lowest, so the bytes are the letters from the last to
+// the first. They are one number, for a table is built anew at each use.
+fn kinds_of(shape: usize) -> u64
+    requires { ⌜ shape < 22 ⌝ }
+    ensures { λ r. ⌜ map kindOf (lettersIn r) ≡ shapeOf shape .kinds ⌝ }
+{
+    match shape {
+        0 => 0x41_6e_6e_2e, // .nnA
+        1 => 0x42_2e, // .B
+        3 => 0x44_2e, // .D
+        4 => 0x45_6e_2e, // .nE
+        5 => 0x46_6e_2e, // .nF
+        6 => 0x47_2e, // .G
+        7 => 0x48_2e, // .H
+        8 => 0x49_6e_78_6e_2e, // .nxnI
+        9 => 0x4a_6e_2e, // .nJ
+        10 => 0x4b_6e_2e, // .nK
+        11 => 0x4c_6e_2e, // .nL
+        STARRED => 0x6e_72_30_6e_6e_6e_6e_2e, // .nnnn0rn
+        RELOCATED => 0x6e_74_6e_78, // xntn
+        ABSOLUTE => 0x74_6e_78, // xnt
+        OPENING => 0x78, // x
+        CLOSING => 0x78, // x
+        EXTERNAL => 0x78, // x
+        DATA => 0x6e_6e, // nn
+        INIT => 0x2e_2e_2e_2e_2e, // .....
+        PARAMETER => 0x73_6e_6e, // nns
+        SUB => 0x6e_6e, // nn
+        _ => 0, // no block has code 2
+    }
+}
 
 // What the line says, read as one of this shape.
 pub fn read_as(file: &[u8], at: usize, stop: usize, shape: usize) -> LineAnswer
@@ -143,10 +146,7 @@ pub fn read_as(file: &[u8], at: usize, stop: usize, shape: usize) -> LineAnswer
     requires { ⌜ shape < 22 ⌝ }
     ensures { λ r. ⌜ r ≡ shapeLine shape (endColumn at stop) (lineFields at stop (now (file .entry))) ⌝ }
 {
-    let kinds: &[u8] = b".nnA.B.D.nE.nF.G.H.nxnI.nJ.nK.nL.nnnn0rnxntnxntxxxnn.....nnsnn";
-    let start = position(STARTS[shape]);
-    let end = position(STARTS[shape + 1]);
-    let r = fit(file, at, stop, &kinds[start..end]);
+    let r = fit(file, at, stop, kinds_of(shape));
     let fault = r.fault;
     let numbers = r.numbers;
     said(r.fits, fault, answer(shape, numbers, r.names[0]))
