@@ -6,3 +6,4 @@ pub mod HeaderLaws
 pub mod PeekLaws
 pub mod RecordLaws
 pub mod AnswerLaws
+pub mod NamedLaws

@@ -1,11 +1,11 @@
 // What one line of an object file says, by what is expected of it.
 use crate::fitting::bad;
 use crate::headers::header_line;
+use crate::named::entry_line;
+use crate::named::external_line;
 use crate::records::code_line;
-use crate::records::entry_line;
 use crate::shapes::CLOSING;
 use crate::shapes::DATA;
-use crate::shapes::EXTERNAL;
 use crate::shapes::INIT;
 use crate::shapes::OPENING;
 use crate::shapes::PARAMETER;
@@ -25,6 +25,7 @@ ghost use Rattle.line.specs.Fitting.{endColumn, lineFields};
 mod fields;
 mod fitting;
 mod headers;
+mod named;
 mod records;
 mod shapes;
 
@@ -42,7 +43,7 @@ fn fields_say(file: &[u8], at: usize, stop: usize, expected: Expected) -> LineAn
         Expected::ClosingTitle => read_as(file, at, stop, CLOSING),
         Expected::CodeRecord => code_line(file, at, stop),
         Expected::EntryRecord => entry_line(file, at, stop),
-        Expected::ExternalRecord => read_as(file, at, stop, EXTERNAL),
+        Expected::ExternalRecord => external_line(file, at, stop),
         Expected::DataRecord => read_as(file, at, stop, DATA),
         Expected::InitRecord => read_as(file, at, stop, INIT),
         Expected::ParameterRecord => read_as(file, at, stop, PARAMETER),

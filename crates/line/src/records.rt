@@ -106,7 +106,7 @@ fn is_one(field: &[u8]) -> bool
 }
 
 // An entry's type, its third field, tells whether a fourth has to follow.
-pub fn entry_line(file: &[u8], at: usize, stop: usize) -> LineAnswer
+pub fn any_entry(file: &[u8], at: usize, stop: usize) -> LineAnswer
     requires { ⌜ InFile at stop (now file) ⌝ }
     ensures { λ r. ⌜ r ≡ readAs (entryShape (lineFields at stop (now (file .entry)))) (endColumn at stop) (lineFields at stop (now (file .entry))) ⌝ }
 {

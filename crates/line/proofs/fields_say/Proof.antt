@@ -59,32 +59,32 @@ entry-line-requires c κs = search needs
 enum-told-6 : tie.Need-enum-told-6
 enum-told-6 c = search needs
 
-read-as-requires-3 : tie.Need-read-as-requires-3
-read-as-requires-3 c κs = search needs
+external-line-requires : tie.Need-external-line-requires
+external-line-requires c κs = search needs
 
 enum-told-7 : tie.Need-enum-told-7
 enum-told-7 c = search needs
 
-read-as-requires-4 : tie.Need-read-as-requires-4
-read-as-requires-4 c κs = search needs
+read-as-requires-3 : tie.Need-read-as-requires-3
+read-as-requires-3 c κs = search needs
 
 enum-told-8 : tie.Need-enum-told-8
 enum-told-8 c = search needs
 
-read-as-requires-5 : tie.Need-read-as-requires-5
-read-as-requires-5 c κs = search needs
+read-as-requires-4 : tie.Need-read-as-requires-4
+read-as-requires-4 c κs = search needs
 
 enum-told-9 : tie.Need-enum-told-9
 enum-told-9 c = search needs
 
-read-as-requires-6 : tie.Need-read-as-requires-6
-read-as-requires-6 c κs = search needs
+read-as-requires-5 : tie.Need-read-as-requires-5
+read-as-requires-5 c κs = search needs
 
 enum-told-10 : tie.Need-enum-told-10
 enum-told-10 c = search needs
 
-read-as-requires-7 : tie.Need-read-as-requires-7
-read-as-requires-7 c κs = search needs
+read-as-requires-6 : tie.Need-read-as-requires-6
+read-as-requires-6 c κs = search needs
 
 returns-2 : tie.Need-returns-2
 returns-2 c = rw (c .before .enum-told .given .1) (c .header-line .ensures)
@@ -106,24 +106,24 @@ unfolding shapeFor
 returns-6 c = some-field (c .before .before .before) (c .entry-line .ensures) (rw (c .before .enum-told5 .given .1))
 
 returns-7 : tie.Need-returns-7
-unfolding shapeFor shapeOf records
-returns-7 c = some-field (c .before .before .before) (c .read-as3 .ensures) (rw (c .before .enum-told6 .given .1))
+unfolding shapeFor
+returns-7 c = some-field (c .before .before .before) (c .external-line .ensures) (rw (c .before .enum-told6 .given .1))
 
 returns-8 : tie.Need-returns-8
 unfolding shapeFor shapeOf records
-returns-8 c = some-field (c .before .before .before) (c .read-as4 .ensures) (rw (c .before .enum-told7 .given .1))
+returns-8 c = some-field (c .before .before .before) (c .read-as3 .ensures) (rw (c .before .enum-told7 .given .1))
 
 returns-9 : tie.Need-returns-9
 unfolding shapeFor shapeOf records
-returns-9 c = some-field (c .before .before .before) (c .read-as5 .ensures) (rw (c .before .enum-told8 .given .1))
+returns-9 c = some-field (c .before .before .before) (c .read-as4 .ensures) (rw (c .before .enum-told8 .given .1))
 
 returns-10 : tie.Need-returns-10
 unfolding shapeFor shapeOf records
-returns-10 c = some-field (c .before .before .before) (c .read-as6 .ensures) (rw (c .before .enum-told9 .given .1))
+returns-10 c = some-field (c .before .before .before) (c .read-as5 .ensures) (rw (c .before .enum-told9 .given .1))
 
 returns-11 : tie.Need-returns-11
 unfolding shapeFor shapeOf records
-returns-11 c = some-field (c .before .before .before) (c .read-as7 .ensures) (rw (c .before .enum-told10 .given .1))
+returns-11 c = some-field (c .before .before .before) (c .read-as6 .ensures) (rw (c .before .enum-told10 .given .1))
 
 pub fields-say-spec : {M : Type 1} → statement M
 fields-say-spec =
@@ -142,15 +142,15 @@ fields-say-spec =
     enum-told-5
     entry-line-requires
     enum-told-6
-    read-as-requires-3
+    external-line-requires
     enum-told-7
-    read-as-requires-4
+    read-as-requires-3
     enum-told-8
-    read-as-requires-5
+    read-as-requires-4
     enum-told-9
-    read-as-requires-6
+    read-as-requires-5
     enum-told-10
-    read-as-requires-7
+    read-as-requires-6
     returns-2
     returns-3
     returns-4
