@@ -13,7 +13,7 @@ set -eu
 cd "$(dirname "$0")/.."
 KEPT='cells::(clear|copy)|soundness::memory::refusal|soundness::cells::(names_differ|symbols_sound|words_sound|zero_between)
 |reading::read_file|reading::fill::add_part|text::lines::next_line|line::(line_answer|fields_say|test_bytes)|line::fitting::fit
-|line::fields::read_field|line::shapes::read_as|line::records::(code|entry|plain)_line|line::headers::header_line|steps::lines::step_of
+|line::fields::read_field|line::shapes::read_as|line::records::(code_line|plain_line|any_entry)|line::named::(external_line|entry_line|entry_from|name_from|number_from)|line::headers::header_line|steps::lines::step_of
 |line_reader::\w+|usual::(usual_word|plain_word)|walking::walk|index::(repeats|add_module|seek)|search::rounds::\w+|search::candidates::mark_undefined|search::modules::is_needed
 |search::visits::visit_module|order::(seek|insert|make)|state::words::high|placing::(place|place_row)|placing::tests::(survey|bad_arguments|out_of_range)|placing::names::duplicates
 |placing::symbols::(enter|mention_all)|placing::words::(lay|link)|image::(image_length|write_words|write_image)|loading::(walk_file|load_file)'

@@ -3,7 +3,7 @@
 -- Assumes nothing.
 use Prim.Native.Nat.{ℕ, _+_, _-_, _*_, _^_, _≤_, _<_, min}
 use native.Mathlib.Omega.{arith}
-use mathlib.Core.Bool.{Bool, true, false, _||_, true≢false}
+use mathlib.Core.Bool.{Bool, true, false, _||_}
 use mathlib.Core.List.{List}
 use mathlib.Core.Option.{some}
 use mathlib.Core.Path.{_≡_, refl, sym, ap, subst, _∙_}
@@ -12,21 +12,20 @@ use lib.Dec.{eqb, leb, ltb}
 use borrow.Author.Tests.{eq-eqb, ne-eqb, eqb-true, eqb-false, le-leb, leb-true, lt-ltb, le-ltb, ltb-true, ltb-false}
 use Rattle.rules.proofs.TestLaws.{and-left, and-right}
 use Rattle.rules.specs.Text.{LF, CR, space, isOctal, legalFront}
-use Rattle.rules.specs.Line.{codeWord, codeShape, shapeFor, lineOf, lineAnswer}
-use Rattle.rules.specs.declared.line.Expected.{Expected}
+use Rattle.rules.specs.Line.{codeWord, shapeFor, lineOf, lineAnswer}
 use Rattle.rules.specs.declared.line.Expected.the-variants.{CodeRecord}
 use Rattle.rules.specs.declared.line.LineAnswer.the-variants.{Code}
 use Rattle.rules.specs.declared.line.Relocation.the-variants.{Plain}
 use Rattle.text.specs.Scan.{part, past, isNot, InFile, Found}
 use Rattle.text.specs.FieldBounds.{isSpace, fieldStart}
-use Rattle.text.specs.LineEnds.{isLegal, legalEnd, NextLine}
+use Rattle.text.specs.LineEnds.{isLegal, legalEnd}
 use Rattle.text.specs.Values.{small}
 use Rattle.text.specs.Digits.{DigitsRead, FieldRead}
 use Rattle.text.specs.declared.numbers.DigitRun.{DigitRun}
 use Rattle.text.specs.declared.numbers.Number.the-variants.{Value}
-use Rattle.text.proofs.ScanLaws.{past-stop, past-step, past-end, past-over, Scanned, scan-start, scan-step, scan-stop, between-yes}
+use Rattle.text.proofs.ScanLaws.{past-stop, past-step, past-end, past-over, Scanned, scan-start, scan-stop, between-yes}
 use Rattle.text.proofs.LineLaws.{front-is, LF-behind, stops-LF, stops-CRLF}
-use Rattle.text.proofs.NumberLaws.{digits-nearer, digit-low, starts-here, line-ends, space-ends}
+use Rattle.text.proofs.NumberLaws.{digits-nearer, digit-low, line-ends, space-ends}
 use Rattle.line.specs.Fitting.{lineFields, endColumn}
 use Rattle.line.proofs.PeekLaws.{star-not}
 use Rattle.line.proofs.RecordLaws.{Quarters, quarters-start, quarters-room, quarters-step, quarters-end}
@@ -62,14 +61,7 @@ front-start at file h =
       quarters = λ stop f g e. quarters-start at stop file (record { order = f; size = g });
     }
 
--- nothing is promised of a line that is declined
-pub nothing-ended : {file : List ℕ} {i text : ℕ} {r : UsualWord} → r .fits ≡ false → r .fits ≡ true → LineEnded file i text r
-nothing-ended e f = absurd (true≢false (sym f ∙ e))
-
-pub nothing-read : {w : Expected} {at : ℕ} {file : List ℕ} {r : UsualWord} → r .fits ≡ false → r .fits ≡ true → WordRead w at file r
-nothing-read e f = absurd (true≢false (sym f ∙ e))
-
--- digits and spaces are legal
+-- digits are legal
 digit-legal : (b : ℕ) → isOctal b ≡ true → isLegal b ≡ true
 digit-legal b e =
     between-yes 32 126 b (omega (arith, leb-true 48 b (and-left (leb 48 b) _ e)))
@@ -120,38 +112,32 @@ module _ {at : ℕ} {file : List ℕ} {text i k : ℕ} (q : Front at file text i
     gap : (0 < k) → getD file (q .end) 0 ≡ space
     gap p = a-space (k - 1) _ (omega arith) (q .parted p)
 
-    -- bytes of a sort that spaces and digits have
-    passed : (p : ℕ → Bool) → p space ≡ true → ((b : ℕ) → isOctal b ≡ true → p b ≡ true) → past p (r .end) (length file) file ≡ past p (q .end) (length file) file
-    passed p s o = past-over p isOctal o i (r .end) (length file) file (d .from) (d .to) (omega arith) (d .digits) ∙ go (eqb k 0) refl
+    -- a scan that passes over spaces passes over it
+    over-gap : (p : ℕ → Bool) → p space ≡ true → (stop : ℕ) → r .end ≤ stop → stop ≤ length file → past p i stop file ≡ past p (q .end) stop file
+    over-gap p s stop f g = go (eqb k 0) refl
       where
-        go : (t : Bool) → eqb k 0 ≡ t → past p i (length file) file ≡ past p (q .end) (length file) file
+        go : (t : Bool) → eqb k 0 ≡ t → past p i stop file ≡ past p (q .end) stop file
         go true e =
             let n : i ≡ q .end = omega (arith, q .next, eqb-true k 0 e) in
-            ap (λ (j : ℕ). past p j (length file) file) n
+            ap (λ (j : ℕ). past p j stop file) n
         go false e =
             let ne = eqb-false k 0 e in
             let n : i ≡ q .end + 1 = omega (arith, q .next) in
-            ap (λ (j : ℕ). past p j (length file) file) n
-            ∙ past-step p (q .end) (length file) file (omega (arith, more, d .to)) (omega arith) (ap p (gap (omega arith)) ∙ s)
+            ap (λ (j : ℕ). past p j stop file) n
+            ∙ past-step p (q .end) stop file (omega (arith, more)) g (ap p (gap (omega arith)) ∙ s)
+
+    -- all bytes up to the digits' end are legal
+    all-legal-so-far : past isLegal (r .end) (length file) file ≡ past isLegal (q .end) (length file) file
+    all-legal-so-far =
+        past-over isLegal isOctal digit-legal i (r .end) (length file) file (d .from) (d .to) (omega arith) (d .digits)
+        ∙ over-gap isLegal refl (length file) (d .to) (omega arith)
 
     -- the field starts at i
     starts : (stop : ℕ) → r .end ≤ stop → stop ≤ length file → i ≡ fieldStart (q .end) stop file
     unfolding fieldStart
-    starts stop f g = go (eqb k 0) refl
-      where
-        at-i : past isSpace i stop file ≡ i
-        at-i = past-stop isSpace i stop file (omega (arith, more)) g (ne-eqb (getD file i 0) space (λ e. omega (arith, low i (omega arith) more)))
-
-        go : (t : Bool) → eqb k 0 ≡ t → i ≡ past isSpace (q .end) stop file
-        go true e =
-            let n : i ≡ q .end = omega (arith, q .next, eqb-true k 0 e) in
-            sym at-i ∙ ap (λ (j : ℕ). past isSpace j stop file) n
-        go false e =
-            let ne = eqb-false k 0 e in
-            let n : i ≡ q .end + 1 = omega (arith, q .next) in
-            sym at-i
-            ∙ ap (λ (j : ℕ). past isSpace j stop file) n
-            ∙ past-step isSpace (q .end) stop file (omega (arith, more)) g (eq-eqb _ space (gap (omega arith)))
+    starts stop f g =
+        sym (past-stop isSpace i stop file (omega (arith, more)) g (ne-eqb (getD file i 0) space (λ e. omega (arith, low i (omega arith) more))))
+        ∙ over-gap isSpace refl stop f g
 
     module _ (most : r .value ≤ 65535) (ended : r .end ≡ length file → ⊥) (b : parts k (getD file (r .end) 0) ≡ true) where
       -- what stands between i and the end is a field, wherever the line stops
@@ -196,7 +182,7 @@ module _ {at : ℕ} {file : List ℕ} {text i k : ℕ} (q : Front at file text i
                   from = omega (arith, q .from, q .next, more);
                   to = d .to;
                   size = omega arith;
-                  same = passed isLegal refl digit-legal ∙ q .legal .same;
+                  same = all-legal-so-far ∙ q .legal .same;
                 };
             quarters =
                 λ stop f g last.

@@ -3,7 +3,7 @@
 use mathlib.Core.Path.{refl}
 use borrow.Author.Needs.{needs}
 use Rattle.usual.specs.Words.{by-LF, by-two}
-use Rattle.usual.proofs.WordLaws.{nothing-ended}
+use Rattle.line.proofs.NamedLaws.{declined}
 use Rattle.usual.proofs.line_ended.Statement.{statement}
 use Rattle.usual.proofs.line_ended.Tie as tie
 
@@ -20,7 +20,7 @@ declined-requires : tie.Need-declined-requires
 declined-requires c κs = search needs
 
 returns-2 : tie.Need-returns-2
-returns-2 c = nothing-ended (c .declined .ensures)
+returns-2 c = declined (c .declined .ensures)
 
 shared-slice-read-if3 : tie.Need-shared-slice-read-if3
 shared-slice-read-if3 c = search needs
@@ -35,7 +35,7 @@ declined-requires-2 : tie.Need-declined-requires-2
 declined-requires-2 c κs = search needs
 
 returns-4 : tie.Need-returns-4
-returns-4 c = nothing-ended (c .declined2 .ensures)
+returns-4 c = declined (c .declined2 .ensures)
 
 pub line-ended-spec : {M : Type 1} → statement M
 line-ended-spec =

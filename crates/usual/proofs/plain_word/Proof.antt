@@ -5,7 +5,8 @@ use native.Mathlib.Omega.{arith}
 use mathlib.Core.Path.{sym, _∙_}
 use borrow.Author.Needs.{needs}
 use borrow.Author.Tests.{not-false}
-use Rattle.usual.proofs.WordLaws.{Front, front-start, nothing-read, front-room, front-step, front-behind, front-end}
+use Rattle.line.proofs.NamedLaws.{declined}
+use Rattle.usual.proofs.WordLaws.{Front, front-start, front-room, front-step, front-behind, front-end}
 use Rattle.usual.proofs.plain_word.Statement.{statement}
 use Rattle.usual.proofs.plain_word.Tie as tie
 
@@ -25,19 +26,19 @@ declined-requires : tie.Need-declined-requires Inv-loop μ-loop
 declined-requires c κs = search needs
 
 returns : tie.Need-returns Inv-loop μ-loop
-returns c = nothing-read (c .declined .ensures)
+returns c = declined (c .declined .ensures)
 
 declined-requires-2 : tie.Need-declined-requires-2 Inv-loop μ-loop
 declined-requires-2 c κs = search needs
 
 returns-2 : tie.Need-returns-2 Inv-loop μ-loop
-returns-2 c = nothing-read (c .declined2 .ensures)
+returns-2 c = declined (c .declined2 .ensures)
 
 declined-requires-3 : tie.Need-declined-requires-3 Inv-loop μ-loop
 declined-requires-3 c κs = search needs
 
 returns-3 : tie.Need-returns-3 Inv-loop μ-loop
-returns-3 c = nothing-read (c .declined3 .ensures)
+returns-3 c = declined (c .declined3 .ensures)
 
 shared-slice-read-parts : tie.Need-shared-slice-read-parts Inv-loop μ-loop
 shared-slice-read-parts c = search needs
@@ -49,7 +50,7 @@ declined-requires-4 : tie.Need-declined-requires-4 Inv-loop μ-loop
 declined-requires-4 c κs = search needs
 
 returns-4 : tie.Need-returns-4 Inv-loop μ-loop
-returns-4 c = nothing-read (c .declined4 .ensures)
+returns-4 c = declined (c .declined4 .ensures)
 
 mul-text : tie.Need-mul-text Inv-loop μ-loop
 mul-text c = omega (arith, front-room (c .before .before .before .before .before .before .before .before .before .loop .inv) (search needs))

@@ -1,7 +1,7 @@
 -- `usual::usual_word` meets its contract: only a code record is looked at.
 -- Assumes nothing.
 use borrow.Author.Needs.{needs}
-use Rattle.usual.proofs.WordLaws.{nothing-read}
+use Rattle.line.proofs.NamedLaws.{declined}
 use Rattle.usual.proofs.usual_word.Statement.{statement}
 use Rattle.usual.proofs.usual_word.Tie as tie
 
@@ -18,7 +18,7 @@ returns : tie.Need-returns
 returns c = rw (c .before .enum-told .given .1) (c .plain-word .ensures)
 
 returns-2 : tie.Need-returns-2
-returns-2 c = nothing-read (c .declined .ensures)
+returns-2 c = declined (c .declined .ensures)
 
 pub usual-word-spec : {M : Type 1} → statement M
 usual-word-spec =
