@@ -128,6 +128,12 @@ module _ (p : ℕ → Bool) where
   unfolding past run
   past-step i e l h g b = rw (part-cons i e l h g, b) (omega arith)
 
+-- a scan that stops before the end stops there too where the end is nearer
+pub past-nearer :
+    (p : ℕ → Bool) (i far near : ℕ) (l : List ℕ) → near ≤ far → past p i far l < near → past p i near l ≡ past p i far l
+unfolding past part
+past-nearer p i far near l h g = omega (arith, run-take p (near - i) (drop i l), run-take p (far - i) (drop i l))
+
 -- a scan goes on from where a stricter one stopped
 module _ (p q : ℕ → Bool) (h : (b : ℕ) → q b ≡ true → p b ≡ true) where
   run-through : (l : List ℕ) → run p l ≡ run q l + run p (drop (run q l) l)

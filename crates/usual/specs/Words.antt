@@ -1,5 +1,5 @@
 -- What is promised of a line that is read in one pass.
-use Prim.Native.Nat.{ℕ, _+_, _-_, _<_}
+use Prim.Native.Nat.{ℕ, _+_, _<_}
 use mathlib.Core.Bool.{Bool, cond, _||_}
 use mathlib.Core.List.{List}
 use mathlib.Core.Path.{_≡_}
@@ -19,14 +19,14 @@ use Rattle.usual.specs.declared.UsualWord.{UsualWord}
 unfoldable pub parts : ℕ → ℕ → Bool
 parts k b = cond (ltb k 3) (eqb b space) (eqb b LF || eqb b CR)
 
--- a line ends before i, where the next one starts; or before the byte before i, and the next one starts behind an LF at i
-pub data Ending (file : List ℕ) (i next : ℕ) : Type 0 where
-  by-LF : getD file (i - 1) 0 ≡ LF → next ≡ i → Ending file i next
-  by-two : (getD file (i - 1) 0 ≡ LF → ⊥) → i < length file → getD file i 0 ≡ LF → next ≡ i + 1 → Ending file i next
+-- a line whose last byte stands before `end`: an LF follows there, or another byte and then the LF
+pub data Ending (file : List ℕ) (end next : ℕ) : Type 0 where
+  by-LF : getD file end 0 ≡ LF → next ≡ end + 1 → Ending file end next
+  by-two : (getD file end 0 ≡ LF → ⊥) → end + 1 < length file → getD file (end + 1) 0 ≡ LF → next ≡ end + 2 → Ending file end next
 
-pub record LineEnded (file : List ℕ) (i text : ℕ) (r : UsualWord) : Type 0 where
+pub record LineEnded (file : List ℕ) (end text : ℕ) (r : UsualWord) : Type 0 where
   pub kept : r .text ≡ text
-  pub ends : Ending file i (r .next)
+  pub ends : Ending file end (r .next)
 
 -- the line at `at` says this word, and the next one starts at next
 pub record WordRead (expected : Expected) (at : ℕ) (file : List ℕ) (r : UsualWord) : Type 0 where

@@ -1,7 +1,9 @@
-// Records in their usual form, read in one pass. Most lines of a file are code records of four numbers with one space between them and
-// the line's end behind the last. A line in any other form is declined, and then read as every line can be: nothing is told of faults here.
+// Records in their usual form, read in one pass. Most lines of a file are code records of four numbers with spaces between them and
+// the line's end right behind the last. A line in any other form is declined, and then read as every line can be: nothing is told of faults here.
 use rules::limits::LARGEST_NUMBER;
+use rules::limits::LONGEST_LINE;
 use rules::line::Expected;
+use text::fields::field_start;
 use text::numbers::digits;
 use text::scan::CR;
 use text::scan::LF;
@@ -40,26 +42,27 @@ fn parts(k: usize, byte: u8) -> bool
     byte == LF || byte == CR
 }
 
-// Four quarters are read, and an LF or a CR stands before i. A CR ends no line without an LF.
-fn line_ended(file: &[u8], i: usize, text: u64) -> UsualWord
-    requires { ⌜ (0 < i) × (i ≤ length (now file)) ⌝ }
-    ensures { λ r. ⌜ (r .fits ≡ true → LineEnded (now (file .entry)) i text r) ⌝ }
+// Four quarters are read, and an LF or a CR stands at `end`, behind the last. A CR ends no line without an LF.
+fn line_ended(file: &[u8], end: usize, text: u64) -> UsualWord
+    requires { ⌜ end < length (now file) ⌝ }
+    ensures { λ r. ⌜ (r .fits ≡ true → LineEnded (now (file .entry)) end text r) ⌝ }
 {
-    if file[i - 1] == LF {
+    if file[end] == LF {
         return UsualWord {
             fits: true,
             text,
-            next: i,
+            next: end + 1,
         };
     }
-    if i == file.len() {
+    let lf = end + 1;
+    if lf == file.len() {
         return declined();
     }
-    if file[i] == LF {
+    if file[lf] == LF {
         return UsualWord {
             fits: true,
             text,
-            next: i + 1,
+            next: lf + 1,
         };
     }
     declined()
@@ -73,9 +76,10 @@ fn plain_word(file: &[u8], at: usize) -> UsualWord
     let mut i = at;
     let mut k: usize = 0;
     while k < 4 {
-        let run = digits(file, i, file.len());
+        let start = field_start(file, i, file.len());
+        let run = digits(file, start, file.len());
         let end = run.end;
-        if end == i {
+        if end == start {
             return declined();
         }
         if LARGEST_NUMBER < run.value {
@@ -88,8 +92,11 @@ fn plain_word(file: &[u8], at: usize) -> UsualWord
             return declined();
         }
         text = text * 65536 + run.value as u64;
-        i = end + 1;
+        i = end;
         k += 1;
+    }
+    if LONGEST_LINE < i - at {
+        return declined();
     }
     line_ended(file, i, text)
 }

@@ -1,20 +1,24 @@
--- `usual::line_ended` meets its contract: an LF, a CR and an LF, or neither.
+-- `usual::line_ended` meets its contract: an LF, a byte and an LF, or neither.
 -- Assumes nothing.
+use native.Mathlib.Omega.{arith}
 use mathlib.Core.Path.{refl}
 use borrow.Author.Needs.{needs}
-use Rattle.usual.specs.Words.{by-LF, by-two}
 use Rattle.line.proofs.NamedLaws.{declined}
+use Rattle.usual.specs.Words.{by-LF, by-two}
 use Rattle.usual.proofs.line_ended.Statement.{statement}
 use Rattle.usual.proofs.line_ended.Tie as tie
-
-sub-if1 : tie.Need-sub-if1
-sub-if1 c = search needs
 
 shared-slice-read-if1 : tie.Need-shared-slice-read-if1
 shared-slice-read-if1 c = search needs
 
+add-t8 : tie.Need-add-t8
+add-t8 c = search needs
+
 returns : tie.Need-returns
 returns c = λ e. record { kept = refl; ends = by-LF (c .if1 .taken) refl }
+
+add-lf : tie.Need-add-lf
+add-lf c = search needs
 
 declined-requires : tie.Need-declined-requires
 declined-requires c κs = search needs
@@ -25,11 +29,11 @@ returns-2 c = declined (c .declined .ensures)
 shared-slice-read-if3 : tie.Need-shared-slice-read-if3
 shared-slice-read-if3 c = search needs
 
-add-t9 : tie.Need-add-t9
-add-t9 c = search needs
+add-t11 : tie.Need-add-t11
+add-t11 c = search needs
 
 returns-3 : tie.Need-returns-3
-returns-3 c = λ e. record { kept = refl; ends = by-two (c .before .before .before .if1 .left) (search needs) (c .if3 .taken) refl }
+returns-3 c = λ e. record { kept = refl; ends = by-two (c .before .before .before .if1 .left) (search needs) (c .if3 .taken) (omega arith) }
 
 declined-requires-2 : tie.Need-declined-requires-2
 declined-requires-2 c κs = search needs
@@ -41,13 +45,14 @@ pub line-ended-spec : {M : Type 1} → statement M
 line-ended-spec =
     tie.close
     (tie.spec
-    sub-if1
     shared-slice-read-if1
+    add-t8
     returns
+    add-lf
     declined-requires
     returns-2
     shared-slice-read-if3
-    add-t9
+    add-t11
     returns-3
     declined-requires-2
     returns-4)

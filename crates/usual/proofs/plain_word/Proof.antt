@@ -19,6 +19,9 @@ abbrev μ-loop : tie.MeasureT-loop
 loop-holds : tie.Need-loop-holds Inv-loop μ-loop
 loop-holds c = front-start _ _ (c .before .pre)
 
+field-start-requires : tie.Need-field-start-requires Inv-loop μ-loop
+field-start-requires c κs = search needs
+
 digits-requires : tie.Need-digits-requires Inv-loop μ-loop
 digits-requires c κs = search needs
 
@@ -53,16 +56,13 @@ returns-4 : tie.Need-returns-4 Inv-loop μ-loop
 returns-4 c = declined (c .declined4 .ensures)
 
 mul-text : tie.Need-mul-text Inv-loop μ-loop
-mul-text c = omega (arith, front-room (c .before .before .before .before .before .before .before .before .before .loop .inv) (search needs))
+mul-text c = omega (arith, front-room (c .before .before .before .before .before .before .before .before .before .before .loop .inv) (search needs))
 
 cast-text : tie.Need-cast-text Inv-loop μ-loop
 cast-text c = search needs
 
 add-text : tie.Need-add-text Inv-loop μ-loop
-add-text c = omega (arith, front-room (c .before .before .before .before .before .before .before .before .before .before .loop .inv) (search needs))
-
-add-i : tie.Need-add-i Inv-loop μ-loop
-add-i c = search needs
+add-text c = omega (arith, front-room (c .before .before .before .before .before .before .before .before .before .before .before .loop .inv) (search needs))
 
 add-k : tie.Need-add-k Inv-loop μ-loop
 add-k c = search needs
@@ -74,14 +74,23 @@ loop-again : tie.Need-loop-again Inv-loop μ-loop
 loop-again c =
     let p = c .before .before in
     let d = p .before .before .before .before .before .before in
-    front-step (d .before .before .loop .inv) (search needs) (d .digits .ensures) (p .before .before .before .before .before .if1 .left)
+    front-step (d .before .before .before .loop .inv) (search needs) (d .before .field-start .ensures) (d .digits .ensures) (p .before .before .before .before .before .if1 .left)
     (search needs) (p .before .before .if3 .left) (sym (p .parts .ensures) ∙ not-false _ (c .before .if4 .left))
 
-line-ended-requires : tie.Need-line-ended-requires Inv-loop μ-loop
-line-ended-requires c κs = front-behind (c .before .loop .inv) (search needs)
+sub-if5 : tie.Need-sub-if5 Inv-loop μ-loop
+sub-if5 c = search needs
+
+declined-requires-5 : tie.Need-declined-requires-5 Inv-loop μ-loop
+declined-requires-5 c κs = search needs
 
 returns-5 : tie.Need-returns-5 Inv-loop μ-loop
-returns-5 c = front-end (c .before .before .loop .inv) (search needs) (c .line-ended .ensures)
+returns-5 c = declined (c .declined5 .ensures)
+
+line-ended-requires : tie.Need-line-ended-requires Inv-loop μ-loop
+line-ended-requires c κs = front-behind (c .before .before .loop .inv) (search needs)
+
+returns-6 : tie.Need-returns-6 Inv-loop μ-loop
+returns-6 c = front-end (c .before .before .before .loop .inv) (search needs) (c .before .if5 .left) (c .line-ended .ensures)
 
 pub plain-word-spec : {M : Type 1} → statement M
 plain-word-spec =
@@ -90,6 +99,7 @@ plain-word-spec =
     Inv-loop
     μ-loop
     loop-holds
+    field-start-requires
     digits-requires
     declined-requires
     returns
@@ -104,9 +114,11 @@ plain-word-spec =
     mul-text
     cast-text
     add-text
-    add-i
     add-k
     loop-less
     loop-again
+    sub-if5
+    declined-requires-5
+    returns-5
     line-ended-requires
-    returns-5)
+    returns-6)
