@@ -5,8 +5,8 @@
 #   scripts/unproved.sh       writes target/unproved/liblinker.a and runs the benchmark over it, with 61 calls for each row
 #
 # `rt try` compiles a program unproved. So a program over the eight calls is made in a copy of the crates, the kit's clang is watched for
-# its module as in scripts/profile.sh, and the proved library's exports take the place of the program's `main`. Where three crates have
-# the name of a module in another (line, reading, cells), `rt try` takes one for the other; in the copy they have other names. What the
+# its module as in scripts/profile.sh, and the proved library's exports take the place of the program's `main`. `rt try` refuses
+# the crates line, reading and cells under their names, which modules of other crates have too; in the copy they have other ones. What the
 # benchmark then says of `verified` is said of the unproved library.
 set -eu
 cd "$(dirname "$0")/.."

@@ -23,7 +23,7 @@ ghost use Rattle.text.specs.Scan.{InFile};
 ghost use Rattle.text.specs.FieldBounds.{PartOf};
 ghost use Rattle.line.specs.Fitting.{endColumn, lineFields, FieldPassed};
 
-// A code record without an asterisk: four quarters. Most lines of a file are such, so they have a loop of their own.
+// A code record without an asterisk: four quarters. Those in their usual form, most of all lines, crate `usual` reads ahead of this.
 fn plain_line(file: &[u8], at: usize, stop: usize) -> LineAnswer
     requires { ⌜ InFile at stop (now file) ⌝ }
     requires { ⌜ starred (lineFields at stop (now file)) ≡ false ⌝ }
