@@ -10,14 +10,14 @@ use native.Mathlib.Nat.{zero-add}
 use lib.ListN.{length, drop}
 use lib.Dec.{leb}
 use borrow.Author.Tests.{eq-eqb, ne-eqb, lt-ltb, le-ltb, le-leb, lt-leb, leb-true, leb-false}
-use Rattle.rules.specs.Text.{any, isName, packName, nameOf}
+use Rattle.rules.specs.Text.{any, isName, packName, nameOf, nameOver}
 use Rattle.rules.specs.State.{Symbol, State, state, Mark, unmarked, broken, frozen, fresh, marked, nameIs, isSymbol}
 use Rattle.rules.specs.Placing.{mention}
 use Rattle.rules.specs.Image.{imageOf}
-use Rattle.rules.specs.Calls.{Lent, wrongLength, damaged, holding, shutBy, Outcome, callAnswer, stopped, done, withSymbols, reset, baseState, base, forceState, force, EndOutcome, endAnswer, endStopped, endDone, isBroken, endState, end}
+use Rattle.rules.specs.Calls.{Lent, wrongLength, damaged, holding, shutBy, Outcome, callAnswer, stopped, done, withSymbols, reset, baseState, base, forceStateOver, force, forceOver, EndOutcome, endAnswer, endStopped, endDone, isBroken, endState, end}
 use Rattle.rules.specs.declared.answer.CallAnswer.{CallAnswer}
 use Rattle.rules.specs.declared.answer.EndAnswer.{EndAnswer}
-use Rattle.state.specs.Layout.{size, lent, soundCells, encode, decode, markCell}
+use Rattle.state.specs.Layout.{size, lent, lentOver, soundCells, encode, decode, markCell}
 use Rattle.state.specs.Good.{Good, Holds, withNext}
 use Rattle.state.specs.Table.{Joined}
 use Rattle.image.specs.Output.{overlay, Written}
@@ -36,7 +36,7 @@ unfolding reset
 reset-short cells h = rw (lent-wrong cells h)
 
 lent-right : (cells : List ℕ) → length cells ≡ size → lent cells ≢ wrongLength
-unfolding lent
+unfolding lentOver
 lent-right cells h e = held-short (soundCells cells) (decode cells) (sym (simp (eq-eqb (length cells) size h)) ∙ e)
 
 reset-any : (l : Lent) → l ≢ wrongLength → reset l ≡ done fresh
@@ -96,22 +96,22 @@ mention-new x (s ∷ t) h = go (nameIs x s) h (mention-new x t)
 
 module _ (cells : List ℕ) (s : State) (h : lent cells ≡ holding s) (name : List ℕ) where
   pub force-shut : (k : ℕ) → k ≡ shutBy (s .mark) → k ≢ 0 → force (lent cells) name ≡ stopped k
-  unfolding force forceState
+  unfolding forceOver forceStateOver
   force-shut k e z = rw (h, ← e) (simp (ne-eqb k 0 z))
 
   module _ (free : shutBy (s .mark) ≡ 0) where
     pub force-illegal : none ≡ nameOf name → force (lent cells) name ≡ stopped 15
-    unfolding force forceState nameOf
+    unfolding forceOver forceStateOver nameOver
     force-illegal e = simp (h, free, no-name (isName name) (packName name) e)
 
     module _ (x : ℕ) (e : some x ≡ nameOf name) where
       legal : (isName name ≡ true) × (x ≡ packName name)
-      unfolding nameOf
+      unfolding nameOver
       legal = chosen-name (isName name) (packName name) x e
 
       -- there already, or with room for one more
       pub force-done : leb (length (mention x (s .symbols))) 256 ≡ true → force (lent cells) name ≡ done (withSymbols (mention x (s .symbols)) s)
-      unfolding force forceState
+      unfolding forceOver forceStateOver
       force-done r = simp (h, free, legal .0) (rw (← legal .1) (go (isSymbol x (s .symbols)) refl))
         where
           t : List Symbol
@@ -125,7 +125,7 @@ module _ (cells : List ℕ) (s : State) (h : lent cells ≡ holding s) (name : L
               simp (lt-leb 256 (length t) (omega (arith, mention-new x t q, fits)))
 
       pub force-full : length (s .symbols) ≤ 256 → leb (length (mention x (s .symbols))) 256 ≡ false → force (lent cells) name ≡ stopped 14
-      unfolding force forceState
+      unfolding forceOver forceStateOver
       force-full few r = simp (h, free, legal .0) (rw (← legal .1) (go (isSymbol x (s .symbols)) refl))
         where
           t : List Symbol

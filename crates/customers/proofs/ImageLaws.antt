@@ -11,7 +11,7 @@ use borrow.Author.Tests.{ltb-false}
 use Rattle.rules.specs.State.{State, Mark, frozen, marked, placedWords, sound}
 use Rattle.rules.specs.Image.{imageOf, endRecord}
 use Rattle.rules.specs.Calls.{Lent, wrongLength, damaged, holding, Left, now, Outcome, EndOutcome, endAnswer, endStopped, endDone, overwritten, isBroken, endState, end}
-use Rattle.rules.specs.History.{ending, leftBy, stateAfter, called}
+use Rattle.rules.specs.History.{ending, leftOver, stateAfter, called}
 use Rattle.rules.specs.declared.answer.EndAnswer.{EndAnswer}
 use Rattle.rules.proofs.BoolLaws.{cond-cases}
 use Rattle.rules.proofs.ImageLaws.{image-length}
@@ -74,7 +74,7 @@ image-fits s out =
     (λ e z. ltb-false (length out) (length (imageOf s)) e)
 
 frozen-sound : (s : State) (out : List ℕ) → end (holding s) out .call .left ≡ now (marked frozen s) → sound s ≡ true → sound (marked frozen s) ≡ true
-unfolding called leftBy stateAfter
+unfolding called leftOver stateAfter
 frozen-sound s out left h = sym (ap (λ (l : Left). sound (stateAfter s l)) left) ∙ called-sound s (ending out) h
 
 -- what is known once it is done: the state that it was lent, the image in front of the output, and the frozen state

@@ -8,8 +8,8 @@ use borrow.Author.Tests.{eq-eqb}
 use Rattle.rules.specs.Limits.{workSize}
 use Rattle.rules.specs.Reading.{Module, section, readingOf, itemsOf}
 use Rattle.rules.specs.State.{State, broken, marked}
-use Rattle.rules.specs.Load.{refusal, walking, searched, walkFrom, loaded, loadRead, loadFile}
-use Rattle.rules.specs.Calls.{holding, loadOutcome, load, symbolAt, symbols}
+use Rattle.rules.specs.Load.{refusal, walking, searched, walkFrom, loaded, loadRead, loadReadOver, loadFile, loadFileOver}
+use Rattle.rules.specs.Calls.{holding, Outcome, loadOutcome, load, symbolAt, symbols}
 use Rattle.rules.specs.History.{workFits}
 use Rattle.rules.specs.declared.answer.LoadAnswer.{LoadAnswer}
 use Rattle.rules.specs.Demand.{LeastSufficient, LeastAtEach}
@@ -18,8 +18,9 @@ use Rattle.rules.specs.declared.reading.Reading.the-variants.{Stopped}
 use Rattle.rules.proofs.OrderLaws.{load-reads, columns-named}
 use Rattle.rules.proofs.ToldLaws.{leftmost-told}
 use Rattle.rules.proofs.Demand3.{library-least}
-use Rattle.state.specs.Layout.{lent}
+use Rattle.state.specs.Layout.{lent, cellsAfter}
 use Rattle.state.specs.Promise.{LoadCalled, DemandMet}
+use Rattle.state.proofs.AcceptedBefore.{load-accepted}
 use Rattle.loading.proofs.LoadDemand.{load-least, load-rounds-most}
 use Rattle.customers.specs.Words.{LoadKept, Listed}
 use Rattle.customers.proofs.LentBefore.{same-held, answer-is}
@@ -42,7 +43,7 @@ module _ (cells file after : List ℕ) (d : DemandMet cells file after) (s : Sta
 
 -- what a file that cannot be read comes to
 stopped-load : (s : State) (file : List ℕ) (k n c : ℕ) → readingOf file ≡ Stopped k n c → loadFile s file ≡ loaded (refusal k n) c 0 (marked broken s)
-unfolding loadFile loadRead
+unfolding loadFileOver loadReadOver
 stopped-load s file k n c e = ap (loadRead s file) e
 
 module _ (before work file : List ℕ) (r : LoadAnswer) (after used : List ℕ) (p : LoadCalled (load (lent before) (workFits work) file) before work r after used) where
@@ -64,6 +65,9 @@ module _ (before work file : List ℕ) (r : LoadAnswer) (after used : List ℕ) 
             answer-is (λ m. load m (workFits work) file) before after r (p .call) (holding s) h _
             (ap (λ (f : Bool). load (holding s) f file) (eq-eqb (length work) workSize room)
             ∙ leftmost-told ls more line f clean least s file mark short lines);
+        accepted-before = λ e.
+            let same = load-accepted before (workFits work) file e in
+            (c .answer ∙ ap (λ (o : Outcome LoadAnswer). o .answer) same, c .cells ∙ ap (λ (o : Outcome LoadAnswer). cellsAfter before (o .left)) same);
         columns = rw (c .answer) (columns-named (lent before) (workFits work) file);
         cleared = work-cleared work used (p .work-left) .0;
         untouched = work-cleared work used (p .work-left) .1;

@@ -11,7 +11,7 @@ use Rattle.rules.specs.State.{State, state, fresh, noWords, positionOf, undefin
 use Rattle.rules.specs.Placing as Placing
 use Rattle.rules.specs.Placing.{mention}
 use Rattle.rules.specs.Calls.{Lent, holding, Outcome, stopped, done, withSymbols, load, reset, force, base, symbols, undefined, undefinedAt}
-use Rattle.rules.specs.History.{forcing, basing, workFits, leftBy, stateAfter, called}
+use Rattle.rules.specs.History.{forcing, basing, workFits, leftOver, stateAfter, called}
 use Rattle.rules.specs.declared.answer.CallAnswer.{CallAnswer}
 use Rattle.rules.specs.declared.answer.LoadAnswer.{LoadAnswer}
 use Rattle.rules.specs.declared.answer.SymbolAnswer.{SymbolAnswer}
@@ -36,7 +36,7 @@ module _ (name : List ℕ) (legal : isName name ≡ true) where
   force-fresh = force-new fresh name refl legal refl (omega arith)
 
   forced-sound : sound (forced name) ≡ true
-  unfolding called leftBy stateAfter
+  unfolding called leftOver stateAfter
   forced-sound =
       sym (ap (λ (o : Outcome CallAnswer). sound (stateAfter fresh (o .left))) force-fresh)
       ∙ called-sound fresh (forcing name) fresh-is-sound
@@ -68,7 +68,7 @@ module _ (address : ℕ) (low : address ≤ 4095) where
   base-fresh = base-moves fresh address refl low
 
   moved-sound : sound (moved address) ≡ true
-  unfolding called leftBy stateAfter
+  unfolding called leftOver stateAfter
   moved-sound =
       sym (ap (λ (o : Outcome CallAnswer). sound (stateAfter fresh (o .left))) base-fresh)
       ∙ called-sound fresh (basing address) fresh-is-sound

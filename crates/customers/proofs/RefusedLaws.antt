@@ -10,7 +10,7 @@ use borrow.Author.Tests.{eq-eqb, ne-eqb}
 use Rattle.rules.specs.Limits.{workSize}
 use Rattle.rules.specs.State.{State, Mark, broken, frozen, marked, sound}
 use Rattle.rules.specs.Calls.{Lent, wrongLength, damaged, holding, Left, asBefore, now, Outcome, loadStopped, EndOutcome, endStopped, loadAnswer, callAnswer, endAnswer, stopped, load, force, base, end, workAfter}
-use Rattle.rules.specs.History.{loading, workFits, leftBy, stateAfter, called}
+use Rattle.rules.specs.History.{loading, workFits, leftOver, stateAfter, called}
 use Rattle.rules.proofs.SoundCalls.{called-sound}
 use Rattle.rules.specs.declared.answer.LoadAnswer.{LoadAnswer}
 use Rattle.rules.specs.declared.answer.CallAnswer.{CallAnswer}
@@ -96,7 +96,7 @@ refused-left s fits file six = go (load-ends s fits file)
 
 -- the mark is no part of what soundness asks
 broken-sound : (s : State) (work file : List ℕ) → load (holding s) (workFits work) file .left ≡ now (marked broken s) → sound s ≡ true → sound (marked broken s) ≡ true
-unfolding called leftBy stateAfter
+unfolding called leftOver stateAfter
 broken-sound s work file left h = sym (ap (λ (l : Left). sound (stateAfter s l)) left) ∙ called-sound s (loading work file) h
 
 -- memory that holds a broken state

@@ -8,7 +8,7 @@ use mathlib.Core.Path.{_≡_}
 use lib.ListN.{length, getD, take, replicate}
 use lib.Dec.{eqb}
 use Rattle.rules.specs.Limits.{longestFile, workSize}
-use Rattle.rules.specs.Text.{linesOf, isName, packName}
+use Rattle.rules.specs.Text.{linesOf, isLetterOrDigit, isName, packName}
 use Rattle.rules.specs.Answers.{isLineFault}
 use Rattle.rules.specs.Faults.{faultNumber, faultsOf, leftmost}
 use Rattle.rules.specs.Reading.{Module, section, unread as nothing-read, readLines, readingOf, itemsOf}
@@ -16,9 +16,9 @@ use Rattle.rules.specs.State.{State, state, unmarked, noWords, placedWords}
 use Rattle.rules.specs.Lookup.{nameAt}
 use Rattle.rules.specs.Load.{progress, walking, searched, walkFrom, takenIn, sectionsIn}
 use Rattle.rules.specs.Image.{imageOf}
-use Rattle.rules.specs.Calls.{holding, workAfter, loadAnswer, callAnswer, endAnswer, symbolAt}
+use Rattle.rules.specs.Calls.{holding, workAfter, loadAnswer, loadOver, callAnswer, endAnswer, symbolAt}
 use Rattle.rules.specs.Demand.{LeastSufficient}
-use Rattle.rules.specs.History.{resetting, loading, ending, ofCall, ofLoad, ofEnd}
+use Rattle.rules.specs.History.{resetting, loading, ending, ofCall, ofLoad, ofEnd, workFits}
 use Rattle.rules.specs.declared.line.Fault.{Fault}
 use Rattle.rules.specs.declared.reading.Reading.the-variants.{Complete, Stopped}
 use Rattle.rules.specs.declared.answer.LoadAnswer.{LoadAnswer}
@@ -27,7 +27,7 @@ use Rattle.rules.specs.declared.answer.SymbolAnswer.{SymbolAnswer}
 use Rattle.rules.specs.declared.answer.UndefinedAnswer.{UndefinedAnswer}
 use Rattle.rules.specs.declared.answer.EndAnswer.{EndAnswer}
 use Rattle.rules.proofs.TestLaws.{Every}
-use Rattle.state.specs.Layout.{size, lent, decode}
+use Rattle.state.specs.Layout.{size, lent, lentOver, cellsAfter, decode}
 use Rattle.state.specs.Promise.{DemandMet}
 use Rattle.state.specs.Sequence.{Run}
 use Rattle.order.specs.Order.{readIn}
@@ -100,6 +100,10 @@ pub record LoadKept (before work file : List ℕ) (r : LoadAnswer) (after used :
       linesOf file ≡ ls ++ (line ∷ more) → readLines nothing-read ls .fault ≡ Complete →
       leftmost (faultsOf (readLines nothing-read ls .mode .expected) line) ≡ some f →
       r ≡ loadAnswer (faultNumber (f .kind)) (length ls + 1) (f .column) 0
+  -- accepted by document 01's alphabet, it has the answer and leaves the state that it had by that one
+  pub accepted-before :
+      let was = loadOver isLetterOrDigit (lentOver isLetterOrDigit before) (workFits work) file in
+      was .answer .number ≡ 0 → (r ≡ was .answer) × (after ≡ cellsAfter before (was .left))
   -- no answer but the fault of a line names a column
   pub columns : eqb (r .column) 0 ≡ not (isLineFault (r .number))
   -- work memory that is lent with junk comes back zero, refused or not; of another length it comes back as it was

@@ -10,7 +10,7 @@ use types.Run.{OneOf, miss}
 use denote.Enum.Declared.{tagOf}
 use borrow.Author.Tests.{le-leb, lt-leb}
 use Rattle.rules.specs.Text.{fieldsOf, legalFront}
-use Rattle.rules.specs.Line.{fault, Shape, readAs, shapeFor, sayFields, lineOf, faultIn, within, testBytes, lineAnswer}
+use Rattle.rules.specs.Line.{fault, Shape, readAs, shapeFor, sayFieldsOver, lineOf, lineOver, faultIn, within, testBytes, lineAnswer, lineAnswerOver}
 use Rattle.rules.specs.declared.line.Fault.{Fault}
 use Rattle.rules.specs.declared.line.FaultKind.the-variants.{IllegalByte}
 use Rattle.rules.specs.declared.line.Expected.{Expected}
@@ -69,16 +69,16 @@ module _ (w : Expected) {at stop : ℕ} {l : List ℕ} (h : InFile at stop l) wh
 
   module _ {s : ℕ} (e : s ≡ fieldStart at stop l) where
     pub line-blank : s ≡ stop → Says Blank
-    unfolding fieldsOf lineOf sayFields
+    unfolding fieldsOf lineOver sayFieldsOver
     line-blank g = rw (no-field at stop s l h e g 1)
 
     -- where there is a field, a shape tells what the line says
     pub line-shaped : s < stop → {x : Shape} {a : LineAnswer} → a ≡ readAs x (endColumn at stop) (lineFields at stop l) →
         shapeFor w (lineFields at stop l) ≡ some x → Says a
-    unfolding fieldsOf lineOf sayFields
+    unfolding fieldsOf lineOver sayFieldsOver
     line-shaped g p q = p ∙ rw (q, field-found at stop s l h e g _ refl .anywhere 1)
 
   pub line-whole : {front : ℕ} {a o : LineAnswer} → front ≡ legalFront 80 (part at stop l) → Says o → a ≡ testBytes front (stop - at) o →
       a ≡ lineAnswer w (part at stop l)
-  unfolding lineAnswer
+  unfolding lineAnswerOver
   line-whole n q p = p ∙ rw (length-part at stop l (h .size), ← n, ← q)

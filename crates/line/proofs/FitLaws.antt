@@ -11,7 +11,7 @@ use native.Mathlib.Numerals.{add-one}
 use lib.Dec.{eqb}
 use borrow.Author.Tests.{eqb-true, eqb-false}
 use Rattle.rules.specs.Text.{Field, fieldsFrom, fieldsOf}
-use Rattle.rules.specs.Line.{nth, value, wrong, readField, Fitted, fits, misfit, inFront, fit, fault}
+use Rattle.rules.specs.Line.{nth, value, wrong, readField, Fitted, fits, misfit, inFront, fit, fitOver, fault}
 use Rattle.rules.specs.declared.line.Fault.{Fault}
 use Rattle.rules.specs.declared.line.FaultKind.{FaultKind}
 use Rattle.rules.specs.declared.line.FaultKind.the-variants.{FieldCount}
@@ -43,7 +43,7 @@ behind-more vs c x (misfit f) = refl
 
 fit-first : (end : ℕ) (k : Kind) (ks : List Kind) (c : ℕ) (t : List ℕ) (fs : List Field) →
     fit end (k ∷ ks) (field c t ∷ fs) ≡ inFront c (readField k t) (fit end ks fs)
-unfolding fit
+unfolding fitOver
 fit-first end k ks c t fs = refl
 
 -- ---- the loop
@@ -70,7 +70,7 @@ module _ {ks : List Kind} {at stop : ℕ} {l done : List ℕ} {i : ℕ} (s : ℕ
   module _ {k : Kind} {rest : List Kind} (f : Fitting ks at stop l done (k ∷ rest) i) where
     -- a field too few
     pub fitting-few : s ≡ stop → misfit (fault FieldCount (stop - at + 1)) ≡ fit (stop - at + 1) ks (lineFields at stop l)
-    unfolding behind fit
+    unfolding behind fitOver
     fitting-few g =
         rw (no-field i stop s l (record { order = f .to; size = f .size }) e g (i - at + 1)) at (f .same)
 
@@ -105,7 +105,7 @@ module _ {ks : List Kind} {at stop : ℕ} {l done : List ℕ} {i : ℕ} (s : ℕ
   module _ (f : Fitting ks at stop l done [] i) where
     -- a field too many
     pub fitting-many : s < stop → misfit (fault FieldCount (s - at + 1)) ≡ fit (stop - at + 1) ks (lineFields at stop l)
-    unfolding behind fit
+    unfolding behind fitOver
     fitting-many g =
         let h : InFile i stop l = record { order = f .to; size = f .size } in
         let c : i - at + 1 + (s - i) ≡ s - at + 1 = omega (arith, start-least i stop l h, f .from) in
@@ -113,7 +113,7 @@ module _ {ks : List Kind} {at stop : ℕ} {l done : List ℕ} {i : ℕ} (s : ℕ
 
     -- all fields fit
     pub fitting-end : stop ≤ s → fits done ≡ fit (stop - at + 1) ks (lineFields at stop l)
-    unfolding behind fit
+    unfolding behind fitOver
     fitting-end g =
         let h : InFile i stop l = record { order = f .to; size = f .size } in
         let n : s ≡ stop = omega (arith, start-most i stop l h) in

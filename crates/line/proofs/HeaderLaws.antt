@@ -10,7 +10,7 @@ use lib.ListN.{length}
 use lib.Dec.{eqb, ltb}
 use borrow.Author.Tests.{ltb-true, ltb-false}
 use Rattle.rules.specs.Text.{Field, fieldsFrom, fieldsOf, numberOf}
-use Rattle.rules.specs.Line.{Row, headers, rowIn, rowOf, fault, fit, said, readAs, headerShapeIn, rowAt, firstText, shapeFor, sayFields, lineOf}
+use Rattle.rules.specs.Line.{Row, headers, rowIn, rowOf, fault, fit, said, readAsOver, headerShapeIn, rowAt, firstText, shapeFor, sayFields, sayFieldsOver, lineOf, lineOver}
 use Rattle.rules.specs.declared.line.FaultKind.the-variants.{BadMarker}
 use Rattle.rules.specs.declared.line.Expected.the-variants.{AnyHeader}
 use Rattle.rules.specs.declared.line.LineAnswer.{LineAnswer}
@@ -52,13 +52,13 @@ known-small k e = go (ltb k 12) refl
 -- a known code is read as its shape, and an unknown one is a fault
 as-shape : (end : ℕ) (f : Field) (fs : List Field) (o : Option Row) → known o ≡ true →
     said (rowShape o .says) (fit end (rowShape o .kinds) (f ∷ fs)) ≡ sayFields end (f ∷ fs) (headerShapeIn o)
-unfolding known rowShape headerShapeIn sayFields readAs
+unfolding known rowShape headerShapeIn sayFieldsOver readAsOver
 as-shape end f fs none e = never e refl
 as-shape end f fs (some r) e = refl
 
 as-fault : (end : ℕ) (f : Field) (fs : List Field) (o : Option Row) → known o ≡ false →
     Bad (fault BadMarker (f .column)) ≡ sayFields end (f ∷ fs) (headerShapeIn o)
-unfolding known headerShapeIn sayFields
+unfolding known headerShapeIn sayFieldsOver
 as-fault end f fs none e = refl
 as-fault end f fs (some r) e = never refl e
 
@@ -67,7 +67,7 @@ module _ {at stop s : ℕ} {l : List ℕ} (h : InFile at stop l) (e : s ≡ fiel
   Says a = a ≡ lineOf AnyHeader (endColumn at stop) (lineFields at stop l)
 
   pub header-blank : s ≡ stop → Says Blank
-  unfolding fieldsOf lineOf sayFields
+  unfolding fieldsOf lineOver sayFieldsOver
   header-blank g = rw (no-field at stop s l h e g 1)
 
   module _ (g : s < stop) (t : List ℕ) (b : t ≡ part (fieldStart s stop l) (fieldStop s stop l) l) where
@@ -82,7 +82,7 @@ module _ {at stop s : ℕ} {l : List ℕ} (h : InFile at stop l) (e : s ≡ fiel
 
     line-is : sayFields (endColumn at stop) (field (s - at + 1) t ∷ others) (headerShapeIn (rowAt (numberOf t)))
         ≡ lineOf AnyHeader (endColumn at stop) (lineFields at stop l)
-    unfolding lineOf shapeFor firstText
+    unfolding lineOver shapeFor firstText
     line-is = rw fields-are
 
     module _ {r : Number} (a : numberIn r ≡ numberOf t) where
@@ -97,7 +97,7 @@ module _ {at stop s : ℕ} {l : List ℕ} (h : InFile at stop l) (e : s ≡ fiel
             p ∙ as-fault _ _ _ (rowOf c) (sym k ∙ n) ∙ (rw (sym a ∙ ap numberIn v) at line-is)
 
         pub header-known : x ≡ true → {o : LineAnswer} → o ≡ shapeLine c (endColumn at stop) (lineFields at stop l) → Says o
-        unfolding rowAt readAs
+        unfolding rowAt readAsOver
         header-known n p =
             p
             ∙ (rw (shape-header c (known-small c (sym k ∙ n)), fields-are) (as-shape _ _ _ (rowOf c) (sym k ∙ n)))

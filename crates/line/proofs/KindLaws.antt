@@ -9,7 +9,7 @@ use mathlib.Core.Path.{_≡_, refl, sym, ap, _∙_}
 use lib.Dec.{eqb}
 use borrow.Author.Tests.{ne-eqb}
 use Rattle.rules.specs.Text.{between, numberOf, nameOf}
-use Rattle.rules.specs.Line.{value, wrong, held, inBounds, readField, markerOf, isOne}
+use Rattle.rules.specs.Line.{value, wrong, held, inBounds, readField, readFieldOver, markerOf, isOne}
 use Rattle.rules.specs.Text.{sameText}
 use Rattle.rules.specs.declared.line.FaultKind.{FaultKind}
 use Rattle.rules.specs.declared.line.FaultKind.the-variants.{BadMarker, BadNumber, BadName}
@@ -26,38 +26,38 @@ use Rattle.line.specs.Fitting.{kindOf}
 
 module _ (low high : ℕ) (j : FaultKind) (f : List ℕ) {r : AnyNumber} (e : numberIn r ≡ numberOf f) where
   pub number-no : r ≡ NotANumber → wrong BadNumber ≡ readField (Number low high j) f
-  unfolding readField inBounds held
+  unfolding readFieldOver inBounds held
   number-no g = rw (sym e ∙ ap numberIn g)
 
   module _ {n : ℕ} (g : r ≡ Value n) where
     pub number-low : n < low → wrong j ≡ readField (Number low high j) f
-    unfolding readField inBounds held
+    unfolding readFieldOver inBounds held
     number-low h = rw (sym e ∙ ap numberIn g) (simp (between-low low high n h))
 
     pub number-high : high < n → wrong j ≡ readField (Number low high j) f
-    unfolding readField inBounds held
+    unfolding readFieldOver inBounds held
     number-high h = rw (sym e ∙ ap numberIn g) (simp (between-high low high n h))
 
     pub number-yes : low ≤ n → n ≤ high → value n ≡ readField (Number low high j) f
-    unfolding readField inBounds held
+    unfolding readFieldOver inBounds held
     number-yes h k = rw (sym e ∙ ap numberIn g) (simp (between-yes low high n h k))
 
 module _ (f : List ℕ) {r : AnyName} (e : nameIn r ≡ nameOf f) where
   pub name-yes : {x : ℕ} → r ≡ Packed x → value x ≡ readField Name f
-  unfolding readField held
+  unfolding readFieldOver held
   name-yes g = rw (sym e ∙ ap nameIn g)
 
   pub name-no : r ≡ NotAName → wrong BadName ≡ readField Name f
-  unfolding readField held
+  unfolding readFieldOver held
   name-no g = rw (sym e ∙ ap nameIn g)
 
 module _ (f : List ℕ) (c : ℕ) {t : Bool} (e : t ≡ sameText f (markerOf c)) where
   pub marker-yes : t ≡ true → value 0 ≡ readField (Marker c) f
-  unfolding readField
+  unfolding readFieldOver
   marker-yes g = simp (sym e ∙ g)
 
   pub marker-no : t ≡ false → wrong BadMarker ≡ readField (Marker c) f
-  unfolding readField
+  unfolding readFieldOver
   marker-no g = simp (sym e ∙ g)
 
 -- ---- is a field the number 1

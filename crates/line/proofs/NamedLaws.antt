@@ -8,7 +8,7 @@ use mathlib.Core.Option.{Option, some}
 use mathlib.Core.Path.{_≡_, refl, sym, ap, subst, _∙_}
 use lib.ListN.{length}
 use Rattle.rules.specs.Text.{Field, fieldsFrom, fieldsOf, numberOf, nameOf}
-use Rattle.rules.specs.Line.{number, value, readField, said, readAs, recordShape, external, absoluteEntry, relocatedEntry, entry, isOne, textAt, entryShape}
+use Rattle.rules.specs.Line.{number, value, readField, said, readAs, readAsOver, recordShape, external, absoluteEntry, relocatedEntry, entry, isOne, textAt, entryShape}
 use Rattle.rules.specs.declared.line.FaultKind.the-variants.{BadNumber, BadType}
 use Rattle.rules.specs.declared.line.Kind.{Kind}
 use Rattle.rules.specs.declared.line.Kind.the-variants.{Number, Name}
@@ -87,7 +87,7 @@ module _ {at stop : ℕ} {l : List ℕ} (h : InFile at stop l) {n e : ℕ} (a : 
   pub external-says :
       {s : ℕ} → s ≡ fieldStart e stop l → stop ≤ s
       → Mentioned n ≡ readAs (recordShape external) (endColumn at stop) (lineFields at stop l)
-  unfolding readAs recordShape said
+  unfolding readAsOver recordShape said
   external-says {s} f g =
       rw (← (fitting-end s f (fits-more (fitting-start (recordShape external .kinds) at stop l h) a (as-name a)) g))
 
@@ -114,12 +114,12 @@ module _ {at stop : ℕ} {l : List ℕ} (h : InFile at stop l) {n e : ℕ} (a : 
     Says x r p = Entered (entry n x r p) ≡ readAs (entryShape (lineFields at stop l)) (endColumn at stop) (lineFields at stop l)
 
     pub absolute-says : t ≡ 0 → {s : ℕ} → s ≡ fieldStart g stop l → stop ≤ s → Says v false 0
-    unfolding readAs recordShape entryShape said isOne
+    unfolding readAsOver recordShape entryShape said isOne
     absolute-says z {s} p q =
         rw (typed, z, ← (fitting-end s p (three [] (omega arith)) q))
 
     pub relocated-says :
         t ≡ 1 → {x k : ℕ} → FieldAs numberOf g stop l x k → {s : ℕ} → s ≡ fieldStart k stop l → stop ≤ s → Says v true x
-    unfolding readAs recordShape entryShape said isOne
+    unfolding readAsOver recordShape entryShape said isOne
     relocated-says z d {s} p q =
         rw (typed, z, ← (fitting-end s p (fits-more (three (number ∷ []) (omega arith)) d (as-number d)) q))

@@ -9,7 +9,7 @@ use mathlib.Core.List.{List, [], _∷_, _++_}
 use mathlib.Core.Path.{_≡_, refl, sym, ap, _∙_}
 use lib.ListN.{length, replicate, length-append}
 use Rattle.rules.specs.Text.{Field, numberOf}
-use Rattle.rules.specs.Line.{nth, number, misfit, fault, fit, said, readAs, recordShape, wordOf, codeWord, starred, codeShape, isOne, textAt, entryShape}
+use Rattle.rules.specs.Line.{nth, number, misfit, fault, fit, said, readAs, readAsOver, recordShape, wordOf, codeWord, starred, codeShape, isOne, textAt, entryShape}
 use Rattle.rules.specs.declared.line.FaultKind.{FaultKind}
 use Rattle.rules.specs.declared.line.FaultKind.the-variants.{FieldCount, BadNumber}
 use Rattle.rules.specs.declared.line.Kind.{Kind}
@@ -30,15 +30,15 @@ use Rattle.line.proofs.FitLaws.{Fitting, fitting-start, fitting-few, fi
 
 module _ (end : ℕ) (fs : List Field) where
   pub code-starred : starred fs ≡ true → shapeLine 12 end fs ≡ readAs (codeShape fs) end fs
-  unfolding readAs shapeOf records recordShape codeShape
+  unfolding readAsOver shapeOf records recordShape codeShape
   code-starred e = rw e
 
   pub entry-relocated : isOne (numberOf (textAt fs 2)) ≡ true → shapeLine 13 end fs ≡ readAs (entryShape fs) end fs
-  unfolding readAs shapeOf records recordShape entryShape
+  unfolding readAsOver shapeOf records recordShape entryShape
   entry-relocated e = rw e
 
   pub entry-absolute : isOne (numberOf (textAt fs 2)) ≡ false → shapeLine 14 end fs ≡ readAs (entryShape fs) end fs
-  unfolding readAs shapeOf records recordShape entryShape
+  unfolding readAsOver shapeOf records recordShape entryShape
   entry-absolute e = rw e
 
 -- ---- the loop over four quarters
@@ -95,7 +95,7 @@ module _ {at stop : ℕ} {l : List ℕ} {text i k : ℕ} (q : Quarters at stop l
   Unstarred = starred (lineFields at stop l) ≡ false
 
   told : Unstarred → {j : FaultKind} {c : ℕ} {a : LineAnswer} → a ≡ Bad (fault j c) → misfit (fault j c) ≡ fit (endColumn at stop) quarters (lineFields at stop l) → Says a
-  unfolding codeShape readAs recordShape said
+  unfolding codeShape readAsOver recordShape said
   told u b e = b ∙ rw (u, ← e)
 
   -- the text fits with room for one quarter more
@@ -135,7 +135,7 @@ module _ {at stop : ℕ} {l : List ℕ} {text i k : ℕ} (q : Quarters at stop l
     quarters-many u g b = told u b (fitting-many s e last g)
 
     pub quarters-end : Unstarred → stop ≤ s → Says (Code (codeWord text Plain))
-    unfolding codeShape readAs recordShape said
+    unfolding codeShape readAsOver recordShape said
     quarters-end u g =
         let n : length (q .done) ≡ 4 = omega (arith, q .count, q .few) in
         rw (u, ← (fitting-end s e last g), q .is, joined-four (q .done) n)

@@ -9,7 +9,7 @@ use mathlib.Core.Path.{_≡_, refl, sym}
 use lib.ListN.{length}
 use lib.Dec.{eqb}
 use borrow.Author.Tests.{ne-eqb, lt-ltb, eqb-true, eqb-false}
-use Rattle.rules.specs.Line.{nth, headers, rowIn, rowOf, Fitted, fits, misfit, said, readAs}
+use Rattle.rules.specs.Line.{nth, headers, rowIn, rowOf, Fitted, fits, misfit, said, readAsOver}
 use Rattle.rules.specs.declared.line.Kind.{Kind}
 use Rattle.rules.specs.declared.line.LineAnswer.{LineAnswer}
 use Rattle.rules.specs.declared.line.LineAnswer.the-variants.{Bad}
@@ -94,5 +94,5 @@ module _ (s at stop : ℕ) (l : List ℕ) (r : FieldsRead) {a : LineAnswer} (kin
   pub shape-says : asFitted (map kindOf (lettersIn kinds)) r ≡ fitLine (map kindOf (lettersIn kinds)) at stop l →
       ((names : List ℕ) → nth names 0 ≡ nth (r .names) 0 → a ≡ saidBy (shapeOf s) (r .numbers) names) →
       cond (r .fits) a (Bad (r .fault)) ≡ shapeLine s (endColumn at stop) (lineFields at stop l)
-  unfolding readAs saidBy fitLine
+  unfolding readAsOver saidBy fitLine
   shape-says e f = rw (f (r .names) refl) (says (shapeOf s .kinds) r (rw is at e) (shapeOf s .says))

@@ -9,14 +9,14 @@ use Rattle.rules.specs.State.{State}
 use Rattle.rules.specs.Load.{walkFrom, takenIn, sectionsIn, progress, walking}
 use Rattle.rules.specs.Calls.{holding, now, Outcome, load}
 use Rattle.rules.specs.declared.answer.LoadAnswer.{LoadAnswer}
-use Rattle.rules.specs.History.{loading, workFits, leftBy, stateAfter, called}
+use Rattle.rules.specs.History.{loading, workFits, leftOver, stateAfter, called}
 use Rattle.rules.proofs.WalkLaws.{load-accepted}
 use Rattle.rules.proofs.RoundLaws.{load-rounds}
 use Rattle.rules.proofs.OrderLaws.{load-lent}
 use Rattle.rules.proofs.Demand3.{demand-3}
 use Rattle.state.specs.Layout.{lent}
 use Rattle.state.specs.Promise.{Called, DemandMet}
-use Rattle.state.specs.Sequence.{cellsCalled}
+use Rattle.state.specs.Sequence.{cellsCalledOver}
 use Rattle.state.proofs.LentLaws.{held-sound}
 use Rattle.state.proofs.SequenceLaws.{holds-called}
 
@@ -43,7 +43,7 @@ module _ (cells work file : List ℕ) (r : LoadAnswer) (left : List ℕ)
         omega (arith, load-rounds s file done, told)
 
   pub load-least : DemandMet cells file left
-  unfolding called leftBy stateAfter cellsCalled
+  unfolding called leftOver stateAfter cellsCalledOver
   load-least =
       let from = lent-sound .0 in
       let held = lent-sound .1 in

@@ -10,8 +10,8 @@ use lib.Dec.{eqb, ltb}
 use borrow.Author.Tests.{eq-eqb, ne-eqb, lt-ltb, le-ltb}
 use Rattle.rules.specs.Reading.{Item, readingOf, itemsOf}
 use Rattle.rules.specs.State.{State, marked, broken}
-use Rattle.rules.specs.Load.{Walk, walking, Progress, progress, walkItems, Loaded, walked, walkFrom, loadRead, loadFile}
-use Rattle.rules.specs.Calls.{Lent, holding, Outcome, loadAnswer, loadStopped, loadOutcome, loadState, loadLent, load, shutBy, workAfter}
+use Rattle.rules.specs.Load.{Walk, walking, Progress, progress, walkItems, Loaded, walked, walkFrom, loadRead, loadReadOver, loadFile, loadFileOver}
+use Rattle.rules.specs.Calls.{Lent, holding, Outcome, loadAnswer, loadStopped, loadOutcome, loadStateOver, loadLent, loadLentOver, load, loadOver, shutBy, workAfter}
 use Rattle.rules.specs.declared.answer.LoadAnswer.{LoadAnswer}
 use Rattle.rules.specs.declared.reading.Reading.{Reading}
 use Rattle.rules.specs.declared.reading.Reading.the-variants.{Complete, Stopped}
@@ -71,13 +71,13 @@ module _ (s : State) (file before : List ℕ) (a : LoadAnswer) (after : List ℕ
   pub file-stopped :
       (k n c : ℕ) → Stopped k n c ≡ readingOf file → Holds after (marked broken s) → a ≡ loadAnswer k n c 0
       → Loads (loadFile s file) before a after
-  unfolding loadFile loadRead cellsAfter
+  unfolding loadFileOver loadReadOver cellsAfter
   file-stopped k n c e h p = subst (λ r. Loads (loadRead s file r) before a after) e (record { answer = p; cells = held-cells h })
 
   pub file-walked :
       (items : List Item) → Complete ≡ readingOf file → items ≡ itemsOf file → Loads (walked s (walkFrom s items)) before a after
       → Loads (loadFile s file) before a after
-  unfolding loadFile loadRead
+  unfolding loadFileOver loadReadOver
   file-walked items e i l =
       subst (λ r. Loads (loadRead s file r) before a after) e (subst (λ is. Loads (walked s (walkFrom s is)) before a after) i l)
 
@@ -85,26 +85,26 @@ module _ (s : State) (file before : List ℕ) (a : LoadAnswer) (after : List ℕ
 
 module _ (cells : List ℕ) (s : State) (h : lent cells ≡ holding s) (file : List ℕ) (k : ℕ) (e : k ≡ shutBy (s .mark)) where
   pub load-shut : k ≢ 0 → loadLent (lent cells) file ≡ loadStopped k
-  unfolding loadLent loadState
+  unfolding loadLentOver loadStateOver
   load-shut z = simp (h, ne-eqb (shutBy (s .mark)) 0 (λ f. z (e ∙ f))) (ap (λ n. loadStopped n) (sym e))
 
   pub load-long : k ≡ 0 → 65536 < length file → loadLent (lent cells) file ≡ loadStopped 5
-  unfolding loadLent loadState
+  unfolding loadLentOver loadStateOver
   load-long z l = simp (h, eq-eqb (shutBy (s .mark)) 0 (sym e ∙ z), lt-ltb 65536 (length file) l)
 
   pub load-done : k ≡ 0 → length file ≤ 65536 → (a : LoadAnswer) (after : List ℕ) → Loads (loadFile s file) cells a after → Called (loadLent (lent cells) file) cells a after
-  unfolding loadLent loadState
+  unfolding loadLentOver loadStateOver
   load-done z l a after d =
       let is : loadLent (lent cells) file ≡ loadOutcome (loadFile s file) = simp (h, eq-eqb (shutBy (s .mark)) 0 (sym e ∙ z), le-ltb 65536 (length file) l) in
       subst (λ (o : Outcome LoadAnswer). Called o cells a after) (sym is) d
 
 module _ (cells : List ℕ) (work file : List ℕ) (a : LoadAnswer) (after : List ℕ) where
   pub load-room : length work ≢ 65536 → a ≡ loadAnswer 1 0 0 0 → Called (load (lent cells) (eqb (length work) 65536) file) cells a cells
-  unfolding load
+  unfolding loadOver
   load-room z p = called-stopped _ _ cells a (simp (ne-eqb (length work) 65536 z)) p
 
   pub load-whole : length work ≡ 65536 → Called (loadLent (lent cells) file) cells a after → Called (load (lent cells) (eqb (length work) 65536) file) cells a after
-  unfolding load
+  unfolding loadOver
   load-whole e d = rw (eq-eqb (length work) 65536 e) d
 
 -- clearing as many cells as there are leaves nothing

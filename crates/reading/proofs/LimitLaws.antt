@@ -10,7 +10,7 @@ use lib.ListN.{length}
 use lib.Dec.{eqb, leb, ltb}
 use Rattle.rules.specs.Text.{LF, CR, linesOf, widenLine, fieldsOf, fieldsFrom, legalFront}
 use Rattle.rules.proofs.LineEndLaws.{startsLF, addToLines, lines-nil, lines-cons}
-use Rattle.rules.specs.Line.{lineAnswer, testBytes, sayFields, lineOf}
+use Rattle.rules.specs.Line.{lineAnswer, lineAnswerOver, testBytes, sayFieldsOver, lineOver}
 use Rattle.rules.specs.Reading.{mode, atStart, expect, expectRecords, recordDone, expectSubs, titleHeader, enterModule, leaveModule, enterSection, leaveSection, countEntry, countExternal, titleStep, libraryStep, libraryEndStep, headerStep, closingStep, entryStep, externalStep, parameterStep, subStep, stepOf, stepAt}
 use Rattle.rules.specs.declared.line.Header.{Header}
 use Rattle.rules.specs.declared.line.Header.the-variants.{CodeBlock, EndBlock, TitleBlock, EntryBlock, ExternalBlock, LibraryStart, LibraryEnd, DataBlock, InitBlock, ParameterBlock}
@@ -173,7 +173,7 @@ module _ (n : ℕ) (b : OpenBlock) (o : OpenModule) (s : OpenSection) where
 
 -- an empty line is skipped
 empty-line : (n : ℕ) (m : Mode) → stepAt n m [] ≡ Next m
-unfolding stepOf lineAnswer testBytes lineOf sayFields fieldsOf fieldsFrom legalFront
+unfolding stepOf lineAnswerOver testBytes lineOver sayFieldsOver fieldsOf fieldsFrom legalFront
 empty-line n m = refl
 
 pub line-spends : (n : ℕ) (m : Mode) (l : List ℕ) → spent (stepAt n m l) ≤ pending m + (length l + 1)

@@ -9,7 +9,7 @@ use lib.ListN.{length}
 use lib.Dec.{eqb, leb}
 use Rattle.rules.specs.Limits.{longestLine}
 use Rattle.rules.specs.Text.{bytes, space, sameText, Field, startsField, widenField, addToFields, fieldsFrom, fieldsOf, numberOf, legalFront}
-use Rattle.rules.specs.Line.{Row, headers, rowIn, rowOf, markerIn, markerOf, Held, value, wrong, readField, Fitted, fits, misfit, inFront, fit, said, readAs, headerShape, headerShapeIn, rowAt, firstText, shapeFor, sayFields, lineOf, fault, faultIn, within, testBytes, lineAnswer}
+use Rattle.rules.specs.Line.{Row, headers, rowIn, rowOf, markerIn, markerOf, Held, value, wrong, readField, readFieldOver, Fitted, fits, misfit, inFront, fit, fitOver, said, readAs, readAsOver, headerShape, headerShapeIn, rowAt, firstText, shapeFor, sayFields, sayFieldsOver, lineOf, lineOver, fault, faultIn, within, testBytes, lineAnswer, lineAnswerOver}
 use Rattle.rules.specs.declared.line.FaultKind.the-variants.{IllegalByte, BadMarker}
 use Rattle.rules.specs.declared.line.Kind.{Kind}
 use Rattle.rules.specs.declared.line.Kind.the-variants.{Marker}
@@ -62,7 +62,7 @@ Marked n (misfit f) = Unit {0}
 
 module _ (c end : ℕ) (long : 6 ≤ length (markerOf c)) where
   marker-in-front : (at : ℕ) (text : List ℕ) (n : ℕ) (r : Fitted) → Marked (length text + n) (inFront at (readField (Marker c) text) r)
-  unfolding inFront readField
+  unfolding inFront readFieldOver
   marker-in-front at text n r = go (sameText text (markerOf c)) refl r
     where
       go : (t : Bool) → sameText text (markerOf c) ≡ t → (r : Fitted) → Marked (length text + n) (inFront at (cond t (value 0) (wrong BadMarker)) r)
@@ -77,7 +77,7 @@ module _ (c end : ℕ) (long : 6 ≤ length (markerOf c)) where
   field-in-front at (value v) n m (fits vs) h = omega arith
 
   marker-fits : (ks : List Kind) (fs : List Field) → Marked (textBytes fs) (fit end (ks ++ (Marker c ∷ [])) fs)
-  unfolding fit textBytes
+  unfolding fitOver textBytes
   marker-fits [] [] = tt
   marker-fits [] (f ∷ fs) = marker-in-front (f .column) (f .text) (textBytes fs) (fit end [] fs)
   marker-fits (k ∷ ks) [] = tt
@@ -124,7 +124,7 @@ row-at (some c) = row-in headers headers-long c
 
 module _ (n end : ℕ) where
   shape-says : (r : Row) (f : Field) (fs : List Field) → RowLong r → textBytes (f ∷ fs) ≤ n → Long n (readAs (headerShape r) end (f ∷ fs))
-  unfolding readAs said fit textBytes
+  unfolding readAsOver said fitOver textBytes
   shape-says r f fs h l =
       go
       (fit end (headerShape r .kinds) (f ∷ fs))
@@ -135,13 +135,13 @@ module _ (n end : ℕ) where
       go (misfit f) m = tt
 
   header-says : (fs : List Field) (r : Option Row) → FoundLong r → textBytes fs ≤ n → Long n (sayFields end fs (headerShapeIn r))
-  unfolding sayFields headerShapeIn
+  unfolding sayFieldsOver headerShapeIn
   header-says [] r h l = tt
   header-says (f ∷ fs) none h l = tt
   header-says (f ∷ fs) (some r) h l = shape-says r f fs h l
 
   fields-long : (fs : List Field) → textBytes fs ≤ n → Long n (lineOf AnyHeader end fs)
-  unfolding lineOf shapeFor
+  unfolding lineOver shapeFor
   fields-long fs l = header-says fs _ (row-at (numberOf (firstText fs))) l
 
 tested : (n front size : ℕ) (a : LineAnswer) → Long n a → Long n (testBytes front size a)
@@ -153,7 +153,7 @@ tested n front size a h =
 
 -- a line of which a header is expected, and which is one, has six bytes
 pub header-long : (line : List ℕ) → Long (length line) (lineAnswer AnyHeader line)
-unfolding lineAnswer fieldsOf
+unfolding lineAnswerOver fieldsOf
 header-long line =
     let n = length line in
     tested n (legalFront longestLine line) n _ (fields-long n (n + 1) (fieldsFrom 1 line) (in-the-line 1 line))

@@ -13,7 +13,7 @@ use Rattle.rules.specs.State.{State, state, Mark, unmarked, broken, froz
 use Rattle.rules.specs.Placing.{mention}
 use Rattle.rules.specs.Image.{imageOf}
 use Rattle.rules.specs.declared.answer.CallAnswer.{CallAnswer}
-use Rattle.rules.specs.Calls.{Left, asBefore, now, holding, shutBy, Outcome, stopped, done, withSymbols, forceState, force, baseState, base, reset, EndOutcome, endStopped, endDone, isBroken, endState, end}
+use Rattle.rules.specs.Calls.{Left, asBefore, now, holding, shutBy, Outcome, stopped, done, withSymbols, forceStateOver, force, forceOver, baseState, base, reset, EndOutcome, endStopped, endDone, isBroken, endState, end}
 use Rattle.rules.specs.Answers.{FROZEN}
 use Rattle.rules.specs.History.{forcing, basing, ending, canAnswer, stateAfter}
 use Rattle.rules.proofs.BoolLaws.{cond-cases}
@@ -35,7 +35,7 @@ module _ (P : Outcome CallAnswer → Type 0) (s : State) where
       → (isSymbol (packName name) (s .symbols) ≡ true → P (done s))
       → (isName name ≡ true → leb 256 (length (s .symbols)) ≡ false → isSymbol (packName name) (s .symbols) ≡ false → P (done (withSymbols (mention (packName name) (s .symbols)) s)))
       → P (force (holding s) name)
-  unfolding force forceState canAnswer
+  unfolding forceOver forceStateOver canAnswer
   force-cases name no-change known new =
       let k = shutBy (s .mark) in
       let added = done (withSymbols (mention (packName name) (s .symbols)) s) in

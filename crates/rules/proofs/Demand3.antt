@@ -11,7 +11,7 @@ use lib.Dec.{eqb, leb}
 use borrow.Author.Tests.{eqb-true, eqb-false, not-true}
 use Rattle.rules.specs.Text.{any, all}
 use Rattle.rules.specs.Reading.{Module, Item, section, itemsOf}
-use Rattle.rules.specs.State.{Symbol, State, isDefined, isUndefined, differentNames, soundSymbol, sound}
+use Rattle.rules.specs.State.{Symbol, State, isDefined, isUndefined, differentNames, soundSymbol, sound, soundOver}
 use Rattle.rules.specs.Placing.{joined, placed, twice}
 use Rattle.rules.specs.Search.{ModuleSet, noModules, withModule}
 use Rattle.rules.specs.Load.{Walk, walking, accepted, place, entryNames, isNeeded, takes, searched, sectionNames, Progress, progress, walkItem, walkItems, walkFrom}
@@ -224,7 +224,7 @@ module _ (ms : List Module) (w : Walk) (once : twice (sectionNames ms) ≡ false
 
 -- the names of a sound state are different
 sound-different : (s : State) → sound s ≡ true → differentNames (s .symbols) ≡ true
-unfolding sound
+unfolding soundOver
 sound-different s h =
     let a = and-on (leb (length (s .symbols)) 256) _ h .1 in
     let b = and-on (all soundSymbol (s .symbols)) _ a .1 in

@@ -11,7 +11,7 @@ use lib.ListN.{length}
 use lib.Dec.{eqb, leb, ltb}
 use borrow.Author.Tests.{leb-true, leb-false, lt-leb, le-leb, ltb-true, ltb-false, eqb-true, eq-eqb}
 use Rattle.rules.specs.Text.{Field, startsField, widenField, addToFields, fieldsFrom, fieldsOf, isLegal, legalFront}
-use Rattle.rules.specs.Line.{Row, Held, value, wrong, readField, Fitted, fits, misfit, fault, inFront, fit, Shape, said, readAs, headerShapeIn, Record, plainCode, linkedCode, absoluteEntry, relocatedEntry, external, openingTitle, closingTitle, dataRecord, initRecord, parameterRecord, subRecord, recordShape, codeShape, entryShape, shapeFor, sayFields, lineOf, faultIn, within, testBytes, lineAnswer}
+use Rattle.rules.specs.Line.{Row, Held, value, wrong, readField, Fitted, fits, misfit, fault, inFront, fit, fitOver, Shape, said, readAs, readAsOver, headerShapeIn, Record, plainCode, linkedCode, absoluteEntry, relocatedEntry, external, openingTitle, closingTitle, dataRecord, initRecord, parameterRecord, subRecord, recordShape, codeShape, entryShape, shapeFor, sayFields, sayFieldsOver, lineOver, faultIn, within, testBytes, lineAnswer, lineAnswerOver}
 use Rattle.rules.specs.Faults.{faultAt, fieldFaults, countFaults, shapeFaults, byteFaults, lengthFaults, faultsOf, rank, ahead, aheadOf, leftmost}
 use Rattle.rules.specs.declared.line.FaultKind.{FaultKind}
 use Rattle.rules.specs.declared.line.FaultKind.the-variants.{IllegalByte, BadMarker, FieldCount, BadNumber, BadName, BadType}
@@ -164,11 +164,11 @@ tells-one (some f) (some g) fs h k =
 -- ---- the fields
 
 -- the columns rise from low and stay below end
-abbrev Rising : ℕ → ℕ → List Field → Type 0
+abbrev pub Rising : ℕ → ℕ → List Field → Type 0
 Rising low end [] = low ≤ end
 Rising low end (f ∷ fs) = (low ≤ f .column) × Rising (f .column + 1) end fs
 
-rising-lower : (low low′ end : ℕ) (fs : List Field) → low′ ≤ low → Rising low end fs → Rising low′ end fs
+pub rising-lower : (low low′ end : ℕ) (fs : List Field) → low′ ≤ low → Rising low end fs → Rising low′ end fs
 rising-lower low low′ end [] h r = omega arith
 rising-lower low low′ end (f ∷ fs) h r = (omega (arith, r .0), r .1)
 
@@ -177,7 +177,7 @@ unfolding widenField
 widened c b end [] r = (omega arith, r)
 widened c b end (f ∷ fs) r = (omega arith, rising-lower _ _ end fs (omega (arith, r .0)) (r .1))
 
-fields-rise : (c : ℕ) (l : List ℕ) → Rising c (c + length l) (fieldsFrom c l)
+pub fields-rise : (c : ℕ) (l : List ℕ) → Rising c (c + length l) (fieldsFrom c l)
 unfolding fieldsFrom addToFields
 fields-rise c [] = omega arith
 fields-rise c (b ∷ rest) =
@@ -222,7 +222,7 @@ TellsOf (misfit f) fs = Least f fs
 
 -- the first fault in field order is the least
 fit-tells : (low end : ℕ) (ks : List Kind) (fs : List Field) → Rising low end fs → TellsOf (fit end ks fs) (allFaults end ks fs)
-unfolding fit fieldFaults countFaults inFront faultAt
+unfolding fitOver fieldFaults countFaults inFront faultAt
 fit-tells low end [] [] r = refl
 fit-tells low end [] (f ∷ fs) r = record { one = here; first = (before-same _, tt) }
 fit-tells low end (k ∷ ks) [] r = record { one = here; first = (before-same _, tt) }
@@ -246,10 +246,10 @@ fit-tells low end (k ∷ ks) (f ∷ fs) r =
     go (value v) (fits vs) t = t
 
 -- what a shape says of values is no fault
-abbrev Faultless : Shape → Type 0
+abbrev pub Faultless : Shape → Type 0
 Faultless s = ((vs : List ℕ) → faultIn (s .says vs) ≡ none)
 
-abbrev FaultlessIn : Option Shape → Type 0
+abbrev pub FaultlessIn : Option Shape → Type 0
 FaultlessIn none = Unit {0}
 FaultlessIn (some s) = Faultless s
 
@@ -272,7 +272,7 @@ record-faultless initRecord vs = refl
 record-faultless parameterRecord vs = refl
 record-faultless subRecord vs = refl
 
-shape-faultless : (w : Expected) (fs : List Field) → FaultlessIn (shapeFor w fs)
+pub shape-faultless : (w : Expected) (fs : List Field) → FaultlessIn (shapeFor w fs)
 unfolding shapeFor codeShape entryShape
 shape-faultless AnyHeader fs = header-faultless _
 shape-faultless OpeningTitle fs = record-faultless _
@@ -287,7 +287,7 @@ shape-faultless SubRecord fs = record-faultless _
 
 read-tells : (s : Shape) (end : ℕ) (fs : List Field) → Faultless s → Rising 1 end fs →
     Tells (faultIn (readAs s end fs)) (allFaults end (s .kinds) fs)
-unfolding readAs said faultIn
+unfolding readAsOver said faultIn
 read-tells s end fs clean r = go (fit end (s .kinds) fs) (fit-tells 1 end (s .kinds) fs r)
   where
     go : (x : Fitted) → TellsOf x (allFaults end (s .kinds) fs) → Tells (faultIn (said (s .says) x)) (allFaults end (s .kinds) fs)
@@ -297,7 +297,7 @@ read-tells s end fs clean r = go (fit end (s .kinds) fs) (fit-tells 1 end (s .ki
 -- what the fields of a line tell; no fault of theirs stands left of column 1
 fields-tell : (end : ℕ) (fs : List Field) (s : Option Shape) → FaultlessIn s → Rising 1 end fs →
     Tells (faultIn (sayFields end fs s)) (shapeFaults end fs s)
-unfolding sayFields shapeFaults faultIn
+unfolding sayFieldsOver shapeFaults faultIn
 fields-tell end [] s clean r = refl
 fields-tell end (f ∷ fs) none clean r = record { one = here; first = (before-same _, tt) }
 fields-tell end (f ∷ fs) (some s) clean r = read-tells s end (f ∷ fs) clean r
@@ -435,7 +435,7 @@ at-most a b {A} f g = go (leb a b) refl
     go false e = g (leb-false a b e)
 
 line-tells : (w : Expected) (line : List ℕ) → Tells (faultIn (lineAnswer w line)) (faultsOf w line)
-unfolding lineAnswer lineOf faultsOf lengthFaults fieldsOf
+unfolding lineAnswerOver lineOver faultsOf lengthFaults fieldsOf
 line-tells w line =
     let fs = fieldsFrom 1 line in
     let end : 1 + length line ≡ length line + 1 = omega arith in

@@ -4,7 +4,7 @@ use mathlib.Core.Bool.{Bool, true, false}
 use mathlib.Core.List.{List, [], _∷_, _++_, append-assoc, append-nil}
 use mathlib.Core.Path.{_≡_, refl, sym, ap, _∙_}
 use Rattle.rules.specs.Text.{linesOf}
-use Rattle.rules.specs.Reading.{atStart, stepAt, Module, Item, free, section, moduleAt, ReadSoFar, readSoFar, unread, moduleDone, stepped, ifComplete, readLine, readLines, atEnd, ended, readingOf, itemsOf}
+use Rattle.rules.specs.Reading.{atStart, stepAt, Module, Item, free, section, moduleAt, ReadSoFar, readSoFar, unread, moduleDone, stepped, ifComplete, readLineOver, readLines, readLinesOver, atEnd, ended, readingOf, readingOver, itemsOf, itemsOver}
 use Rattle.rules.specs.declared.reading.Mode.{Mode}
 use Rattle.rules.specs.declared.reading.Part.{Part}
 use Rattle.rules.specs.declared.reading.Step.{Step}
@@ -48,7 +48,7 @@ itemsFrom n m ps ms (l ∷ ls) = gather (stepAt n m l) ps ms (λ m′ ps′ ms�
 stays :
     (ls : List (List ℕ)) (n : ℕ) (m : Mode) (ps : List Part) (ms : List Module) (is : List Item) (k l c : ℕ)
     → readLines (readSoFar n m ps ms is (Stopped k l c)) ls ≡ readSoFar n m ps ms is (Stopped k l c)
-unfolding readLines readLine ifComplete
+unfolding readLinesOver readLineOver ifComplete
 stays [] n m ps ms is k l c = refl
 stays (x ∷ ls) n m ps ms is k l c = stays ls n m ps ms is k l c
 
@@ -78,7 +78,7 @@ module _
 fold-reading :
     (ls : List (List ℕ)) (n : ℕ) (m : Mode) (ps : List Part) (ms : List Module) (is : List Item)
     → ended (readLines (readSoFar n m ps ms is Complete) ls) ≡ readFrom n m ls
-unfolding readLines readLine ifComplete readFrom
+unfolding readLinesOver readLineOver ifComplete readFrom
 fold-reading [] n m ps ms is = refl
 fold-reading (l ∷ ls) n m ps ms is = step-reading ls n m ps ms is (fold-reading ls (n + 1)) (stepAt n m l)
 
@@ -116,14 +116,14 @@ module _
 fold-items :
     (ls : List (List ℕ)) (n : ℕ) (m : Mode) (ps : List Part) (ms : List Module) (is : List Item)
     → readLines (readSoFar n m ps ms is Complete) ls .items ≡ is ++ itemsFrom n m ps ms ls
-unfolding readLines readLine ifComplete itemsFrom
+unfolding readLinesOver readLineOver ifComplete itemsFrom
 fold-items [] n m ps ms is = sym (append-nil is)
 fold-items (l ∷ ls) n m ps ms is = step-items ls n m ps ms is (fold-items ls (n + 1)) (stepAt n m l)
 
 pub reading-lines : (file : List ℕ) → readingOf file ≡ readFrom 1 atStart (linesOf file)
-unfolding readingOf unread
+unfolding readingOver unread
 reading-lines file = fold-reading (linesOf file) 1 atStart [] [] []
 
 pub items-lines : (file : List ℕ) → itemsOf file ≡ itemsFrom 1 atStart [] [] (linesOf file)
-unfolding itemsOf unread
+unfolding itemsOver unread
 items-lines file = fold-items (linesOf file) 1 atStart [] [] []

@@ -17,8 +17,8 @@ use Rattle.rules.specs.Placing.{Code, linked, putAll, placingFault, plac
 use Rattle.rules.specs.Search.{ModuleSet}
 use Rattle.rules.specs.Load.{Walk, walking, accepted, tryPlace, place, takes, searched, testSection, Progress, progress, walkItem, walkItems}
 use Rattle.rules.specs.Image.{two, recordsFrom, endRecord, imageOf}
-use Rattle.rules.specs.Calls.{holding, load, memory}
-use Rattle.rules.specs.History.{Call, loading, forcing, basing, resetting, askingHigh, listing, listingUndefined, ending, workFits, leftBy, stateAfter, called, calledAll}
+use Rattle.rules.specs.Calls.{holding, load, loadOver, memory}
+use Rattle.rules.specs.History.{Call, loading, forcing, basing, resetting, askingHigh, listing, listingUndefined, ending, workFits, leftOver, stateAfter, called, calledAll}
 use Rattle.rules.proofs.TestLaws.{Every}
 use Rattle.rules.proofs.BoolLaws.{cond-cases, never}
 use Rattle.rules.proofs.CountLaws.{linked-placed}
@@ -117,15 +117,15 @@ same-words s t e = ap (λ (ws : List Word). record { number = 0; line = 0; high 
 
 module _ (s : State) where
   pub force-keeps-high : (name : List ℕ) → memory (holding (called s (forcing name))) ≡ memory (holding s)
-  unfolding called leftBy
+  unfolding called leftOver
   force-keeps-high name = same-words s (called s (forcing name)) (force-words s name)
 
   pub base-keeps-high : (to : ℕ) → memory (holding (called s (basing to))) ≡ memory (holding s)
-  unfolding called leftBy
+  unfolding called leftOver
   base-keeps-high to = same-words s (called s (basing to)) (base-words s to)
 
   pub end-keeps-high : (out : List ℕ) → memory (holding (called s (ending out))) ≡ memory (holding s)
-  unfolding called leftBy
+  unfolding called leftOver
   end-keeps-high out = same-words s (called s (ending out)) (end-words s out)
 
 -- ---- a placed word stays placed until a RESET
@@ -174,7 +174,7 @@ items-stay s [] p h = h
 items-stay s (i ∷ is) p h = items-stay s is (walkItem p i) (item-stays s p i h)
 
 load-stays : (s : State) (fits : Bool) (file : List ℕ) → Stay (s .words) (stateAfter s (load (holding s) fits file .left) .words)
-unfolding stateAfter load Stay
+unfolding stateAfter loadOver Stay
 load-stays s false file = λ a h. h
 load-stays s true file = go (load-ends s true file)
   where
@@ -185,7 +185,7 @@ load-stays s true file = go (load-ends s true file)
 
 pub placed-stays : (s : State) (c : Call) → c ≢ resetting → (a : ℕ) →
     isPlaced (getD (s .words) a unplaced) ≡ true → isPlaced (getD (called s c .words) a unplaced) ≡ true
-unfolding called leftBy stateAfter Stay
+unfolding called leftOver stateAfter Stay
 placed-stays s (loading work file) other = load-stays s (workFits work) file
 placed-stays s (forcing name) other = λ a h. rw (force-words s name) h
 placed-stays s (basing to) other = λ a h. rw (base-words s to) h

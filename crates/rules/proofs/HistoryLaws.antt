@@ -15,8 +15,8 @@ use Rattle.rules.specs.State.{State, Word, fresh, broken, marked, placed
 use Rattle.rules.specs.Placing.{codeCount, placed, twice}
 use Rattle.rules.specs.Search.{ModuleSet, noModules, withModule}
 use Rattle.rules.specs.Load.{Walk, refusal, walk, walking, accepted, place, takes, searched, sectionNames, testSection, Progress, progress, walkItem, walkItems}
-use Rattle.rules.specs.Calls.{holding, load, reset, asBefore, now}
-use Rattle.rules.specs.History.{Call, loading, forcing, basing, resetting, askingHigh, listing, listingUndefined, ending, workFits, leftBy, stateAfter, called, calledAll, chosen, placedBy, placedFrom, codeCounts, countPlaced, countAfter, countSince}
+use Rattle.rules.specs.Calls.{holding, load, loadOver, reset, asBefore, now}
+use Rattle.rules.specs.History.{Call, loading, forcing, basing, resetting, askingHigh, listing, listingUndefined, ending, workFits, leftOver, stateAfter, called, calledAll, chosen, placedBy, placedFrom, codeCounts, countPlaced, countAfter, countSince}
 use Rattle.rules.proofs.TestLaws.{Every, every-found, between-low}
 use Rattle.rules.proofs.BoolLaws.{cond-cases, never, never-none}
 use Rattle.rules.proofs.SearchLaws.{search-keeps}
@@ -148,7 +148,7 @@ loadedBy s fits file = stateAfter s (load (holding s) fits file .left)
 
 load-grown : (s : State) (work file : List ℕ)
     → length (s .words) ≡ 4096 → Grown (countPlaced s work file) s (called s (loading work file))
-unfolding called leftBy countPlaced stateAfter load
+unfolding called leftOver countPlaced stateAfter loadOver
 load-grown s work file size = go (workFits work)
   where
     read : Ending s (load (holding s) true file) → Grown (countLoaded s true file) s (loadedBy s true file)
@@ -167,7 +167,7 @@ load-grown s work file size = go (workFits work)
 
 counted-from : (cs : List Call) (n : ℕ) (s : State)
     → length (s .words) ≡ 4096 → placedWords (s .words) ≡ n → placedWords (calledAll s cs .words) ≡ countSince n s cs
-unfolding calledAll countSince countAfter called leftBy reset stateAfter
+unfolding calledAll countSince countAfter called leftOver reset stateAfter
 counted-from [] n s size e = e
 counted-from (loading work file ∷ cs) n s size e =
     let g = load-grown s work file size in

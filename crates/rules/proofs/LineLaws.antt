@@ -9,7 +9,7 @@ use lib.ListN.{length, getD}
 use lib.Dec.{eqb, leb, ltb}
 use borrow.Author.Tests.{leb-true, le-leb, lt-ltb, ltb-true, eqb-false}
 use Rattle.rules.specs.Text.{Field, fieldsOf, numberOf, nameOf, between, isPacked, sameText}
-use Rattle.rules.specs.Line.{nth, Row, headers, rowIn, rowOf, Held, value, wrong, held, inBounds, readField, Fitted, fits, misfit, inFront, fit, Shape, said, readAs, headerShapeIn, rowAt, firstText, markerOf, wordOf, relocationOf, Record, linkedCode, plainCode, relocatedEntry, absoluteEntry, recordShape, starred, codeShape, isOne, textAt, entryShape, shapeFor, sayFields, lineOf, faultIn, within, testBytes, lineAnswer}
+use Rattle.rules.specs.Line.{nth, Row, headers, rowIn, rowOf, Held, value, wrong, held, inBounds, readField, readFieldOver, Fitted, fits, misfit, inFront, fit, fitOver, Shape, said, readAs, readAsOver, headerShapeIn, rowAt, firstText, markerOf, wordOf, relocationOf, Record, linkedCode, plainCode, relocatedEntry, absoluteEntry, recordShape, starred, codeShape, isOne, textAt, entryShape, shapeFor, sayFields, sayFieldsOver, lineOver, faultIn, within, testBytes, lineAnswer, lineAnswerOver}
 use Rattle.rules.specs.declared.line.FaultKind.{FaultKind}
 use Rattle.rules.specs.declared.line.FaultKind.the-variants.{BadMarker, BadName}
 use Rattle.rules.specs.declared.line.Fault.{Fault}
@@ -146,7 +146,7 @@ in-bounds low high j (value v) = go (between low high v) refl
 in-bounds low high j (wrong k) = tt
 
 read-field : (k : Kind) (f : List ℕ) → HoldsIn k (readField k f)
-unfolding readField held
+unfolding readFieldOver held
 read-field (Number low high j) f = in-bounds low high j _
 read-field Name f = go (nameOf f) refl
   where
@@ -163,7 +163,7 @@ in-front c k ks (value v) (misfit f) p q = tt
 in-front c k ks (value v) (fits vs) p q = (p, q)
 
 fit-holds : (end : ℕ) (ks : List Kind) (fs : List Field) → FitsIn ks (fit end ks fs)
-unfolding fit
+unfolding fitOver
 fit-holds end [] [] = tt
 fit-holds end [] (f ∷ fs) = tt
 fit-holds end (k ∷ ks) [] = tt
@@ -187,7 +187,7 @@ Tells w s = ((vs : List ℕ) → Values (s .kinds) vs → CanSay w (s .says vs))
 
 -- then a line of the shape says what can be said
 shape-told : (w : Expected) (s : Shape) → Tells w s → (end : ℕ) (fs : List Field) → CanSay w (readAs s end fs)
-unfolding readAs said
+unfolding readAsOver said
 shape-told w s tells end fs = go (fit end (s .kinds) fs) (fit-holds end (s .kinds) fs)
   where
     go : (r : Fitted) → FitsIn (s .kinds) r → CanSay w (said (s .says) r)
@@ -294,7 +294,7 @@ fields-told SubRecord fs = λ vs at. sub
 -- ---- the whole line
 
 say-fields : (w : Expected) (end : ℕ) (fs : List Field) (s : Option Shape) → TellsIn w s → CanSay w (sayFields end fs s)
-unfolding sayFields
+unfolding sayFieldsOver
 say-fields w end [] s h = blank
 say-fields w end (f ∷ fs) none h = bad
 say-fields w end (f ∷ fs) (some s) h = shape-told w s h end (f ∷ fs)
@@ -310,7 +310,7 @@ tested w front size a t = either w (leb size front) t (either w (within front (f
 
 -- for every line, and whatever is expected of it
 pub line-can-say : (w : Expected) (line : List ℕ) → CanSay w (lineAnswer w line)
-unfolding lineAnswer lineOf
+unfolding lineAnswerOver lineOver
 line-can-say w line =
     let fs = fieldsOf line in
     tested w _ _ _ (say-fields w (length line + 1) fs (shapeFor w fs) (fields-told w fs))

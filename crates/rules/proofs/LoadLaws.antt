@@ -12,9 +12,9 @@ use Rattle.rules.specs.Reading.{Module, Item, free, section, readingOf, 
 use Rattle.rules.specs.State.{State, Mark, unmarked, broken, frozen, marked}
 use Rattle.rules.specs.Placing.{placingFault, placed, twice}
 use Rattle.rules.specs.Search.{ModuleSet}
-use Rattle.rules.specs.Load.{Walk, refusal, walk, walking, accepted, tryPlace, place, takes, searched, sectionNames, testSection, Progress, progress, walkItem, walkItems, walkFrom, loaded, walked, loadRead, loadFile}
+use Rattle.rules.specs.Load.{Walk, refusal, walk, walking, accepted, tryPlace, place, takes, searched, sectionNames, testSection, Progress, progress, walkItem, walkItems, walkFrom, loaded, walked, loadRead, loadReadOver, loadFile, loadFileOver}
 use Rattle.rules.specs.declared.answer.LoadAnswer.{LoadAnswer}
-use Rattle.rules.specs.Calls.{asBefore, now, holding, shutBy, Outcome, loadStopped, loadOutcome, loadState, loadLent, load}
+use Rattle.rules.specs.Calls.{asBefore, now, holding, shutBy, Outcome, loadStopped, loadOutcome, loadState, loadStateOver, loadLentOver, load, loadOver}
 use Rattle.rules.specs.declared.reading.Reading.{Reading}
 use Rattle.rules.specs.declared.reading.Reading.the-variants.{Complete, Stopped}
 use Rattle.rules.proofs.TestLaws.{cond-keeps, between-wider}
@@ -80,7 +80,7 @@ walked-ends s p h =
     (λ e. forFile (refused-number (p .walk .refusal .number) h e) refl refl)
 
 read-ends : (s : State) (file : List ℕ) (r : Reading) → readingNumber r ≡ true → Ending s (loadOutcome (loadRead s file r))
-unfolding loadRead readingNumber walkNumber placingNumber
+unfolding loadReadOver readingNumber walkNumber placingNumber
 read-ends s file Complete h = walked-ends s (walkFrom s (itemsOf file)) (items-number (itemsOf file) (progress (walking s) 0) refl)
 read-ends s file (Stopped k n c) h = forFile (right-wider k c h) refl refl
 
@@ -91,7 +91,7 @@ shut-number broken h = refl
 shut-number frozen h = refl
 
 pub state-ends : (s : State) (file : List ℕ) → Ending s (loadState s file)
-unfolding loadState loadFile
+unfolding loadStateOver loadFileOver
 state-ends s file =
     let read = loadOutcome (loadFile s file) in
     cond-cases
@@ -112,6 +112,6 @@ state-ends s file =
 -- "A refused call leaves image, symbols, marks and next address as they were, except that a load refused for what is in its file
 -- sets the broken mark"
 pub load-ends : (s : State) (work-fits : Bool) (file : List ℕ) → Ending s (load (holding s) work-fits file)
-unfolding load loadLent
+unfolding loadOver loadLentOver
 load-ends s false file = ahead refl refl refl refl refl
 load-ends s true file = state-ends s file

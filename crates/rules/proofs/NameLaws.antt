@@ -9,8 +9,9 @@ use native.Mathlib.Omega.{arith}
 use lib.ListN.{length, getD}
 use lib.Dec.{eqb}
 use borrow.Author.Tests.{leb-true, eq-eqb, ne-eqb, eqb-true}
-use Rattle.rules.specs.Text.{all, between, isOctal, octal, isNumber, numberOf, isLetter, isLetterOrDigit, isName, packName, nameOf, upToZero, unpackName, isPacked}
-use Rattle.rules.proofs.TestLaws.{and-intro, and-left, and-right, between-intro, between-low, between-high, all-weaken, all-first, all-rest}
+use Rattle.rules.specs.Text.{all, between, isOctal, octal, isNumber, numberOf, isLetter, isDigit, isNameCharacter, isName, isNameOver, packName, nameOf, nameOver, upToZero, unpackName, isPacked, isPackedOver}
+use Rattle.rules.proofs.BoolLaws.{or-cases}
+use Rattle.rules.proofs.TestLaws.{and-intro, and-left, and-right, between-intro, between-low, between-high, between-wider, all-weaken, all-first, all-rest}
 
 -- ---- numbers
 
@@ -29,39 +30,42 @@ number-bound ds n e =
 
 -- ---- the bytes of a name
 
--- a letter or digit stands between 48 and 90
-character : (b : ℕ) → isLetterOrDigit b ≡ true → between 48 90 b ≡ true
-character b h = go (isLetter b) refl h
+-- a character of a name stands between 36, the dollar, and 90, the last letter
+character : (b : ℕ) → isNameCharacter b ≡ true → between 36 90 b ≡ true
+unfolding isNameCharacter
+character b h =
+    or-cases (isLetter b) _ h (between-wider 65 90 36 90 b (omega arith) (omega arith))
+    (λ h. or-cases (isDigit b) _ h (between-wider 48 57 36 90 b (omega arith) (omega arith))
+    (λ h. or-cases (eqb b 36) _ h (one 36 (omega arith) (omega arith)) (one 46 (omega arith) (omega arith))))
   where
-    go : (t : Bool) → isLetter b ≡ t → (t || between 48 57 b) ≡ true → between 48 90 b ≡ true
-    go true e h = between-intro 48 90 b (omega (arith, between-low 65 90 b e)) (between-high 65 90 b e)
-    go false e h = between-intro 48 90 b (between-low 48 57 b h) (omega (arith, between-high 48 57 b h))
+    one : (c : ℕ) → 36 ≤ c → c ≤ 90 → eqb b c ≡ true → between 36 90 b ≡ true
+    one c l h e = between-intro 36 90 b (omega (arith, eqb-true b c e)) (omega (arith, eqb-true b c e))
 
 -- what a legal name is
 pub record NameText (cs : List ℕ) : Type 0 where
   pub some-bytes : 1 ≤ length cs
   pub few-bytes : length cs ≤ 6
   pub first : 65 ≤ getD cs 0 0
-  pub characters : all (between 48 90) cs ≡ true
+  pub characters : all (between 36 90) cs ≡ true
 
 pub name-text : (cs : List ℕ) → isName cs ≡ true → NameText cs
-unfolding isName
+unfolding isNameOver
 name-text cs h =
     let size = and-left (between 1 6 (length cs)) _ h in
     let rest = and-right (between 1 6 (length cs)) _ h in
     record {
       some-bytes = between-low 1 6 (length cs) size;
       few-bytes = between-high 1 6 (length cs) size;
-      first = between-low 65 90 (getD cs 0 0) (and-left (isLetter (getD cs 0 0)) (all isLetterOrDigit cs) rest);
-      characters = all-weaken isLetterOrDigit (between 48 90) character cs (and-right (isLetter (getD cs 0 0)) _ rest);
+      first = between-low 65 90 (getD cs 0 0) (and-left (isLetter (getD cs 0 0)) (all isNameCharacter cs) rest);
+      characters = all-weaken isNameCharacter (between 36 90) character cs (and-right (isLetter (getD cs 0 0)) _ rest);
     }
 
 -- no byte of such a text, nor the 0 behind its end, is above 90
-pub byte-bound : (cs : List ℕ) → all (between 48 90) cs ≡ true → (i : ℕ) → getD cs i 0 ≤ 90
+pub byte-bound : (cs : List ℕ) → all (between 36 90) cs ≡ true → (i : ℕ) → getD cs i 0 ≤ 90
 unfolding all
 byte-bound [] h i = omega arith
-byte-bound (c ∷ cs) h zero = between-high 48 90 c (all-first (between 48 90) c cs h)
-byte-bound (c ∷ cs) h (suc i) = byte-bound cs (all-rest (between 48 90) c cs h) i
+byte-bound (c ∷ cs) h zero = between-high 36 90 c (all-first (between 36 90) c cs h)
+byte-bound (c ∷ cs) h (suc i) = byte-bound cs (all-rest (between 36 90) c cs h) i
 
 -- ---- packing and unpacking
 
@@ -82,16 +86,16 @@ six-padded (a ∷ b ∷ c ∷ d ∷ e ∷ []) = refl
 six-padded (a ∷ b ∷ c ∷ d ∷ e ∷ f ∷ cs) = refl
 
 -- the zeros are dropped again
-up-to-padded : (n : ℕ) (cs : List ℕ) → all (between 48 90) cs ≡ true → length cs ≤ n → upToZero (padded n cs) ≡ cs
+up-to-padded : (n : ℕ) (cs : List ℕ) → all (between 36 90) cs ≡ true → length cs ≤ n → upToZero (padded n cs) ≡ cs
 unfolding padded upToZero all
 up-to-padded zero [] h l = refl
 up-to-padded zero (c ∷ cs) h l = absurd (omega arith)
 up-to-padded (suc n) [] h l = refl
 up-to-padded (suc n) (c ∷ cs) h l =
-    let some-byte : c ≢ 0 = omega (arith, between-low 48 90 c (all-first (between 48 90) c cs h)) in
+    let some-byte : c ≢ 0 = omega (arith, between-low 36 90 c (all-first (between 36 90) c cs h)) in
     simp
     (ne-eqb c 0 some-byte)
-    (ap (_∷_ c) (up-to-padded n cs (all-rest (between 48 90) c cs h) (omega arith)))
+    (ap (_∷_ c) (up-to-padded n cs (all-rest (between 36 90) c cs h) (omega arith)))
 
 same-six : {a b c d e f a′ b′ c′ d′ e′ f′ : ℕ} → a ≡ a′ → b ≡ b′ → c ≡ c′ → d ≡ d′ → e ≡ e′ → f ≡ f′
     → a ∷ b ∷ c ∷ d ∷ e ∷ f ∷ [] ≡ a′ ∷ b′ ∷ c′ ∷ d′ ∷ e′ ∷ f′ ∷ []
@@ -119,11 +123,11 @@ pub pack-injective : (cs ds : List ℕ) → isName cs ≡ true → isName ds ≡
 pack-injective cs ds h k e = sym (unpack-pack cs h) ∙ ap unpackName e ∙ unpack-pack ds k
 
 pub pack-legal : (cs : List ℕ) → isName cs ≡ true → isPacked (packName cs) ≡ true
-unfolding isPacked
+unfolding isPackedOver
 pack-legal cs h = rw unpack-pack (and-intro h (eq-eqb (packName cs) (packName cs) refl))
 
 pub name-legal : (cs : List ℕ) (x : ℕ) → nameOf cs ≡ some x → isPacked x ≡ true
-unfolding nameOf
+unfolding nameOver
 name-legal cs x e = let c = chosen (isName cs) (packName cs) x e in rw (c .1) at (pack-legal cs (c .0))
 
 -- the number of six bytes, the first a letter
@@ -143,7 +147,7 @@ pub record Packed (n : ℕ) : Type 0 where
   pub some-name : n ≢ 0
 
 pub packed : (n : ℕ) → isPacked n ≡ true → Packed n
-unfolding isPacked
+unfolding isPackedOver
 packed n h =
     let name = and-left (isName (unpackName n)) (eqb (packName (unpackName n)) n) h in
     let again = eqb-true _ n (and-right (isName (unpackName n)) (eqb (packName (unpackName n)) n) h) in

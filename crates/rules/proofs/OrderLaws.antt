@@ -18,8 +18,8 @@ use Rattle.rules.specs.Load.{loadFile}
 use Rattle.rules.specs.Image.{imageOf}
 use Rattle.rules.specs.declared.answer.SymbolAnswer.{SymbolAnswer}
 use Rattle.rules.specs.declared.answer.UndefinedAnswer.{UndefinedAnswer}
-use Rattle.rules.specs.Calls.{Lent, asBefore, Outcome, outcome, EndOutcome, wrongLength, damaged, holding, shutBy, loadStopped, loadOutcome, loadState, loadLent, load, stopped, done, withSymbols, forceState, force, baseState, base, reset, memory, symbolAt, symbols, undefinedAt, undefined, endStopped, endDone, isBroken, endState, end}
-use Rattle.rules.specs.History.{Call, loading, forcing, basing, resetting, askingHigh, listing, listingUndefined, ending, replyTo, numberIn, canAnswer, workFits, leftBy, stateAfter, called, calledAll}
+use Rattle.rules.specs.Calls.{Lent, asBefore, Outcome, outcome, EndOutcome, wrongLength, damaged, holding, shutBy, loadStopped, loadOutcome, loadState, loadStateOver, loadLentOver, load, loadOver, stopped, done, withSymbols, forceStateOver, force, forceOver, baseState, base, reset, memory, symbolAt, symbols, undefinedAt, undefined, endStopped, endDone, isBroken, endState, end}
+use Rattle.rules.specs.History.{Call, loading, forcing, basing, resetting, askingHigh, listing, listingUndefined, ending, replyTo, replyOver, numberIn, canAnswer, workFits, leftOver, stateAfter, called, calledAll}
 use Rattle.rules.proofs.TestLaws.{Every}
 use Rattle.rules.proofs.TestLaws.{between-low, between-high}
 use Rattle.rules.proofs.BoolLaws.{cond-cases}
@@ -30,22 +30,22 @@ use Rattle.rules.proofs.CallLaws.{force-cases, base-cases, end-cases}
 -- ---- LOAD
 
 pub load-without-work : (m : Lent) (file : List ℕ) → load m false file ≡ loadStopped BUFFER
-unfolding load
+unfolding loadOver
 load-without-work m file = refl
 
 pub load-wrong-length : (fits : Bool) (file : List ℕ) → load wrongLength fits file ≡ loadStopped BUFFER
-unfolding load loadLent
+unfolding loadOver loadLentOver
 load-wrong-length false file = refl
 load-wrong-length true file = refl
 
 pub load-damaged : (file : List ℕ) → load damaged true file ≡ loadStopped DAMAGED
-unfolding load loadLent
+unfolding loadOver loadLentOver
 load-damaged file = refl
 
 -- so LOAD answers no number but 1 to 5 unless it is lent a sound state, and work memory of its length
 pub load-lent : (m : Lent) (fits : Bool) (file : List ℕ) → let n = load m fits file .answer .number in
     (1 ≤ n → 6 ≤ n) → (s : State) × (m ≡ holding s) × (fits ≡ true)
-unfolding load loadLent
+unfolding loadOver loadLentOver
 load-lent m false file h = absurd (omega (arith, h (omega arith)))
 load-lent wrongLength true file h = absurd (omega (arith, h (omega arith)))
 load-lent damaged true file h = absurd (omega (arith, h (omega arith)))
@@ -53,48 +53,48 @@ load-lent (holding s) true file h = (s, refl, refl)
 
 module _ (s : State) (file : List ℕ) where
   pub load-broken : s .mark ≡ broken → load (holding s) true file ≡ loadStopped RESET
-  unfolding load loadLent loadState shutBy
+  unfolding loadOver loadLentOver loadStateOver shutBy
   load-broken e = rw e
 
   pub load-frozen : s .mark ≡ frozen → load (holding s) true file ≡ loadStopped FROZEN
-  unfolding load loadLent loadState shutBy
+  unfolding loadOver loadLentOver loadStateOver shutBy
   load-frozen e = rw e
 
   pub load-too-long : s .mark ≡ unmarked → longestFile < length file → load (holding s) true file ≡ loadStopped TOO-LONG
-  unfolding load loadLent loadState shutBy
+  unfolding loadOver loadLentOver loadStateOver shutBy
   load-too-long e h = rw (e, lt-ltb longestFile (length file) h)
 
   pub load-reads : s .mark ≡ unmarked → length file ≤ longestFile → load (holding s) true file ≡ loadOutcome (loadFile s file)
-  unfolding load loadLent loadState shutBy
+  unfolding loadOver loadLentOver loadStateOver shutBy
   load-reads e h = rw (e, le-ltb longestFile (length file) h)
 
 -- ---- FORCE
 
 module _ (s : State) (name : List ℕ) where
   pub force-broken : s .mark ≡ broken → force (holding s) name ≡ stopped RESET
-  unfolding force forceState shutBy
+  unfolding forceOver forceStateOver shutBy
   force-broken e = rw e
 
   pub force-frozen : s .mark ≡ frozen → force (holding s) name ≡ stopped FROZEN
-  unfolding force forceState shutBy
+  unfolding forceOver forceStateOver shutBy
   force-frozen e = rw e
 
   pub force-no-name : s .mark ≡ unmarked → isName name ≡ false → force (holding s) name ≡ stopped NAME
-  unfolding force forceState shutBy
+  unfolding forceOver forceStateOver shutBy
   force-no-name e n = rw (e, n)
 
   pub force-known : s .mark ≡ unmarked → isName name ≡ true → isSymbol (packName name) (s .symbols) ≡ true → force (holding s) name ≡ done s
-  unfolding force forceState shutBy
+  unfolding forceOver forceStateOver shutBy
   force-known e n k = rw (e, n, k)
 
   pub force-full : s .mark ≡ unmarked → isName name ≡ true → isSymbol (packName name) (s .symbols) ≡ false →
       mostSymbols ≤ length (s .symbols) → force (holding s) name ≡ stopped TABLE
-  unfolding force forceState shutBy
+  unfolding forceOver forceStateOver shutBy
   force-full e n k h = rw (e, n, k, le-leb mostSymbols (length (s .symbols)) h)
 
   pub force-new : s .mark ≡ unmarked → isName name ≡ true → isSymbol (packName name) (s .symbols) ≡ false →
       length (s .symbols) < mostSymbols → force (holding s) name ≡ done (withSymbols (mention (packName name) (s .symbols)) s)
-  unfolding force forceState shutBy
+  unfolding forceOver forceStateOver shutBy
   force-new e n k h = rw (e, n, k, lt-leb mostSymbols (length (s .symbols)) h)
 
 -- ---- BASE
@@ -142,7 +142,7 @@ record Shut (s : State) : Type 0 where
   ends : (out : List ℕ) → stateAfter s (end (holding s) out .call .left) ≡ s
 
 shut-stays : (s : State) → Shut s → (c : Call) → c ≢ resetting → called s c ≡ s
-unfolding called leftBy stateAfter load
+unfolding called leftOver stateAfter loadOver
 shut-stays s h (loading work file) other = go (workFits work)
   where
     go : (fits : Bool) → stateAfter s (load (holding s) fits file .left) ≡ s
@@ -211,7 +211,7 @@ right-zero k c h = go (eqb c 0) h
 
 pub columns-named : (m : Lent) (fits : Bool) (file : List ℕ) → let a = load m fits file .answer in
     eqb (a .column) 0 ≡ not (isLineFault (a .number))
-unfolding load loadLent
+unfolding loadOver loadLentOver
 columns-named m false file = refl
 columns-named wrongLength true file = refl
 columns-named damaged true file = refl
@@ -228,7 +228,7 @@ columns-named (holding s) true file = go (state-ends s file)
 
 -- where LOAD's work memory has its length or not
 load-answers : (m : Lent) (fits : Bool) (file : List ℕ) → (let k = load m fits file .answer .number in leb k TOO-LONG || isFileFault k) ≡ true
-unfolding load loadLent
+unfolding loadOver loadLentOver
 load-answers m false file = refl
 load-answers wrongLength true file = refl
 load-answers damaged true file = refl
@@ -249,7 +249,7 @@ undefined-done s i =
     cond-cases (λ (a : UndefinedAnswer). leb (a .number) 2 ≡ true) (ltb i (length (undefinedOnly (s .symbols)))) _ _ (λ _. refl) (λ _. refl)
 
 pub answers-only : (m : Lent) (c : Call) → canAnswer c (numberIn (replyTo m c)) ≡ true
-unfolding replyTo numberIn canAnswer force base reset memory symbols undefined end
+unfolding replyOver numberIn canAnswer forceOver base reset memory symbols undefined end
 answers-only m (loading work file) = load-answers m (workFits work) file
 answers-only wrongLength (forcing name) = refl
 answers-only damaged (forcing name) = refl

@@ -3,7 +3,7 @@
 use Prim.Native.Nat.{ℕ, zero, suc, _-_, _*_, _^_}
 use Prim.Native.String.{String}
 use mathlib.Core.Bool.{Bool, true, false, cond}
-use mathlib.Core.List.{List, [], _∷_, _++_}
+use mathlib.Core.List.{List, [], _∷_, _++_, map}
 use mathlib.Core.Option.{none, some}
 use mathlib.Core.Path.{_≡_, refl}
 use lib.ListN.{take, drop, replicate}
@@ -22,12 +22,12 @@ use Rattle.rules.specs.Image.{imageOf}
 use Rattle.rules.specs.Placing as Placing
 use Rattle.rules.specs.Search as Search
 use Rattle.rules.specs.Load as Load
-use Rattle.rules.specs.Text.{bytes, linesOf, packName}
+use Rattle.rules.specs.Text.{bytes, linesOf, Alphabet, isNameCharacter, isLetterOrDigit, isNameOver, packName}
 use Rattle.rules.specs.Answers.{answerName}
-use Rattle.rules.specs.Line.{lineAnswer}
+use Rattle.rules.specs.Line.{lineAnswer, lineAnswerOver}
 use Rattle.rules.specs.Reading.{free, readingOf, itemsOf}
-use Rattle.rules.specs.State.{Symbol, symbol, Word, plain, unplaced, refers, Mark, unmarked, broken, frozen, State, state, fresh, positionOf, high, highest, sound}
-use Rattle.rules.specs.Calls.{wrongLength, damaged, holding, Left, asBefore, now, Outcome, outcome, workAfter, load, force, base, reset, memory, symbols, undefined, end}
+use Rattle.rules.specs.State.{Symbol, symbol, Word, plain, unplaced, refers, Mark, unmarked, broken, frozen, State, state, fresh, positionOf, high, highest, sound, soundOver}
+use Rattle.rules.specs.Calls.{wrongLength, damaged, holding, Left, asBefore, now, Outcome, outcome, workAfter, load, force, forceOver, base, reset, memory, symbols, undefined, end}
 use Rattle.rules.specs.Lookup.{lookup, answered, readBy, lookUp, nameAt}
 use Rattle.rules.specs.declared.lookup.Lookup.{Lookup}
 use Rattle.rules.specs.declared.line.FaultKind.{FaultKind}
@@ -657,10 +657,49 @@ Answering =
     × (answering (listingUndefined 0) ≡ 0 ∷ 1 ∷ 2 ∷ [])
     × (answering (ending []) ≡ 0 ∷ 1 ∷ 2 ∷ 3 ∷ 16 ∷ [])
 
+-- 02, 4/14: the names that the request is about, and one that was legal before
+abbrev namesBy : Alphabet → List Bool
+namesBy alphabet =
+    map (λ x. isNameOver alphabet (bytes x)) ("A$B" ∷ "IO.1" ∷ "A....." ∷ "$A" ∷ ".A" ∷ "A$B.C1D" ∷ "AB" ∷ [])
+
+-- one symbol, undefined
+abbrev alone : String → State
+alone x = whole (symbol (name x) 0 false ∷ []) unplaced 0
+
+-- the characters of a name, of all bytes; names by both alphabets; then in each place where a name stands: in files, in a state, in FORCE
+abbrev Alphabets : Type 0
+Alphabets =
+    (passing isNameCharacter (upTo 256) ≡ bytes "$.0123456789ABCDEFGHIJKLMNOPQRSTUVWXYZ")
+    × (passing isLetterOrDigit (upTo 256) ≡ bytes "0123456789ABCDEFGHIJKLMNOPQRSTUVWXYZ")
+    × (namesBy isNameCharacter ≡ true ∷ true ∷ true ∷ false ∷ false ∷ false ∷ true ∷ [])
+    × (namesBy isLetterOrDigit ≡ false ∷ false ∷ false ∷ false ∷ false ∷ false ∷ true ∷ [])
+    × (name "A$B" ≡ 0x41_24_42_00_00_00)
+    × (line OpeningTitle "A$B" ≡ Opening (name "A$B"))
+    × (line OpeningTitle "$A" ≡ fault BadName 1)
+    × (line ClosingTitle "IO.1" ≡ Closing (name "IO.1"))
+    × (line ClosingTitle ".A" ≡ fault BadName 1)
+    × (line EntryRecord "A..... 5 0" ≡ entry "A....." 5 false 0)
+    × (line EntryRecord "A$B 5 1 2" ≡ entry "A$B" 5 true 2)
+    × (line EntryRecord "$A 5 0" ≡ fault BadName 1)
+    × (line ExternalRecord "IO.1" ≡ Mentioned (name "IO.1"))
+    × (line ExternalRecord "A$B.C1D" ≡ fault BadName 1)
+    × (line ExternalRecord "A$b" ≡ fault BadName 1)
+    × (line AnyHeader "10 2 A$B 3 ***DBDB" ≡ Head (DataBlock 2))
+    × (line AnyHeader "10 2 .LOCAL 3 ***DBDB" ≡ fault BadName 6)
+    × (sound (alone "A$B") ≡ true)
+    × (sound (alone "A.....") ≡ true)
+    × (sound (alone "$A") ≡ false)
+    × (sound (alone ".A") ≡ false)
+    × (force (holding (whole [] unplaced 0)) (bytes "IO.1") ≡ called 0 (now (alone "IO.1")))
+    × (force (holding (whole [] unplaced 0)) (bytes "$A") ≡ called 15 asBefore)
+    × (lineAnswerOver isLetterOrDigit ExternalRecord (bytes "A$B") ≡ fault BadName 1)
+    × (soundOver isLetterOrDigit (alone "A.B") ≡ false)
+    × (forceOver isLetterOrDigit (holding (whole [] unplaced 0)) (bytes "A.B") ≡ called 15 asBefore)
+
 -- ---- the claim
 
-pub small-table : Lines × Bytes × Headers × Records × CodeWords × Kinds × Leftmost × AllFaults × Told × Split × Files × Lists × Walks × Orders × Placed × Soundness × Highs × Looking × Lengths × Marks × Lookups × Names × Answering
-unfolding Load.takenAt Load.takenIn Load.sectionsAt Load.sectionsIn Search.count times passing History.canAnswer History.leftBy History.stateAfter History.called History.calledAll Text.bytes Text.all Text.any Text.widenLine Text.cutLines Text.withoutEnd Text.linesOf Text.legalFront Text.startsField Text.widenField Text.addToFields Text.fieldsFrom Text.fieldsOf Text.octal Text.isNumber Text.numberOf Text.isName Text.packName Text.nameOf Text.upToZero Text.unpackName Text.isPacked Line.headers Line.rowIn Line.rowOf Line.markerIn Text.sameText Line.held Line.inBounds Line.readField Line.inFront Line.fit Line.said Line.readAs Line.recordShape Line.rowAt Line.firstText Line.headerShapeIn Line.codeShape Line.isOne Line.textAt Line.entryShape Line.shapeFor Line.sayFields Line.lineOf Line.faultIn Line.within Line.testBytes Line.lineAnswer Faults.faultNumber Faults.faultAt Faults.fieldFaults Faults.countFaults Faults.shapeFaults Faults.byteFaults Faults.lengthFaults Faults.faultsOf Faults.rank Faults.ahead Faults.aheadOf Faults.leftmost Reading.atStart Reading.expect Reading.expectRecords Reading.recordDone Reading.expectSubs Reading.titleHeader Reading.enterModule Reading.leaveModule Reading.enterSection Reading.leaveSection Reading.countEntry Reading.countExternal Reading.titleStep Reading.libraryStep Reading.libraryEndStep Reading.headerStep Reading.closingStep Reading.entryStep Reading.externalStep Reading.parameterStep Reading.subStep Reading.stepOf Reading.unread Reading.moduleDone Reading.stepped Reading.ifComplete Reading.readLine Reading.readLines Reading.isHeader Reading.atEnd Reading.readingOf Reading.itemsOf State.noWords State.fresh State.isSymbol State.isDefined State.isUndefined State.positionOf State.undefinedOnly State.placedWords State.highestFrom State.highestWhere State.soundSymbol State.differentNames State.soundWord State.sound Placing.entriesIn Placing.externalsIn Placing.codeIn Placing.lengthIn Placing.countIn Placing.valueAt Placing.define Placing.mention Placing.defineAll Placing.mentionAll Placing.joined Placing.linked Placing.putAll Placing.noRoom Placing.overlaps Placing.badArgument Placing.badArguments Placing.outOfRange Placing.twice Placing.duplicates Placing.tableFull Placing.placingFault Placing.placed Search.noModules Search.withModule Search.visit Search.sweep Search.round Search.rounds Search.search Load.tryPlace Load.place Load.entryNames Load.isNeeded Load.takes Load.searched Load.sectionNames Load.testSection Load.walkItem Load.walkItems Load.walked Load.loadRead Load.loadFile Image.valueOf Image.completed Image.two Image.quarters Image.wordRecord Image.recordOf Image.recordsFrom Image.endRecord Image.imageOf Calls.workAfter Calls.shutBy Calls.loadState Calls.loadLent Calls.load Calls.forceState Calls.force Calls.baseState Calls.base Calls.reset Calls.memory Calls.symbolAt Calls.symbols Calls.undefinedAt Calls.undefined Calls.isBroken Calls.endState Calls.end Answers.answers Answers.nameIn Answers.answerName Lookup.answered Lookup.readBy Lookup.halves Lookup.lookUp upTo
+pub small-table : Lines × Bytes × Headers × Records × CodeWords × Kinds × Leftmost × AllFaults × Told × Split × Files × Lists × Walks × Orders × Placed × Soundness × Highs × Looking × Lengths × Marks × Lookups × Names × Answering × Alphabets
+unfolding Load.takenAt Load.takenIn Load.sectionsAt Load.sectionsIn Search.count times passing History.canAnswer History.leftOver History.stateAfter History.called History.calledAll Text.bytes Text.all Text.any Text.widenLine Text.cutLines Text.withoutEnd Text.linesOf Text.legalFront Text.startsField Text.widenField Text.addToFields Text.fieldsFrom Text.fieldsOf Text.octal Text.isNumber Text.numberOf Text.isNameCharacter Text.isLetterOrDigit Text.isNameOver Text.packName Text.nameOver Text.upToZero Text.unpackName Text.isPackedOver Line.headers Line.rowIn Line.rowOf Line.markerIn Text.sameText Line.held Line.inBounds Line.readFieldOver Line.inFront Line.fitOver Line.said Line.readAsOver Line.recordShape Line.rowAt Line.firstText Line.headerShapeIn Line.codeShape Line.isOne Line.textAt Line.entryShape Line.shapeFor Line.sayFieldsOver Line.lineOver Line.faultIn Line.within Line.testBytes Line.lineAnswerOver Faults.faultNumber Faults.faultAt Faults.fieldFaults Faults.countFaults Faults.shapeFaults Faults.byteFaults Faults.lengthFaults Faults.faultsOf Faults.rank Faults.ahead Faults.aheadOf Faults.leftmost Reading.atStart Reading.expect Reading.expectRecords Reading.recordDone Reading.expectSubs Reading.titleHeader Reading.enterModule Reading.leaveModule Reading.enterSection Reading.leaveSection Reading.countEntry Reading.countExternal Reading.titleStep Reading.libraryStep Reading.libraryEndStep Reading.headerStep Reading.closingStep Reading.entryStep Reading.externalStep Reading.parameterStep Reading.subStep Reading.stepOf Reading.unread Reading.moduleDone Reading.stepped Reading.ifComplete Reading.readLineOver Reading.readLinesOver Reading.isHeader Reading.atEnd Reading.readingOver Reading.itemsOver State.noWords State.fresh State.isSymbol State.isDefined State.isUndefined State.positionOf State.undefinedOnly State.placedWords State.highestFrom State.highestWhere State.soundSymbolOver State.differentNames State.soundWord State.soundOver Placing.entriesIn Placing.externalsIn Placing.codeIn Placing.lengthIn Placing.countIn Placing.valueAt Placing.define Placing.mention Placing.defineAll Placing.mentionAll Placing.joined Placing.linked Placing.putAll Placing.noRoom Placing.overlaps Placing.badArgument Placing.badArguments Placing.outOfRange Placing.twice Placing.duplicates Placing.tableFull Placing.placingFault Placing.placed Search.noModules Search.withModule Search.visit Search.sweep Search.round Search.rounds Search.search Load.tryPlace Load.place Load.entryNames Load.isNeeded Load.takes Load.searched Load.sectionNames Load.testSection Load.walkItem Load.walkItems Load.walked Load.loadReadOver Load.loadFileOver Image.valueOf Image.completed Image.two Image.quarters Image.wordRecord Image.recordOf Image.recordsFrom Image.endRecord Image.imageOf Calls.workAfter Calls.shutBy Calls.loadStateOver Calls.loadLentOver Calls.loadOver Calls.forceStateOver Calls.forceOver Calls.baseState Calls.base Calls.reset Calls.memory Calls.symbolAt Calls.symbols Calls.undefinedAt Calls.undefined Calls.isBroken Calls.endState Calls.end Answers.answers Answers.nameIn Answers.answerName Lookup.answered Lookup.readBy Lookup.halves Lookup.lookUp upTo
 small-table = (
   (refl, refl, refl, refl, refl),
   (refl, refl, refl, refl, refl, refl, refl, refl, refl),
@@ -685,4 +724,5 @@ small-table = (
   (refl, refl, refl, refl, refl, refl, refl, refl, refl, refl, refl, refl, refl, refl, refl, refl, refl, refl),
   (refl, refl, refl, refl, refl, refl, refl, refl, refl, refl, refl, refl, refl, refl, refl, refl, refl, refl, refl, refl, refl, refl, refl),
   (refl, refl, refl, refl, refl, refl, refl, refl),
+  (refl, refl, refl, refl, refl, refl, refl, refl, refl, refl, refl, refl, refl, refl, refl, refl, refl, refl, refl, refl, refl, refl, refl, refl, refl, refl),
 )

@@ -13,8 +13,8 @@ use Rattle.rules.specs.State.{Symbol, nameIs, Mark, State, state, Word, 
 use Rattle.rules.specs.Placing.{mention, placingFault, placed}
 use Rattle.rules.specs.Search.{ModuleSet}
 use Rattle.rules.specs.Load.{Walk, refusal, walk, walking, accepted, tryPlace, place, takes, searched, testSection, Progress, progress, walkItem, walkItems, walkFrom}
-use Rattle.rules.specs.Calls.{Left, asBefore, now, holding, load, force, base, reset, end, withSymbols}
-use Rattle.rules.specs.History.{Call, loading, forcing, basing, resetting, askingHigh, listing, listingUndefined, ending, workFits, leftBy, stateAfter, called}
+use Rattle.rules.specs.Calls.{Left, asBefore, now, holding, load, loadOver, force, base, reset, end, withSymbols}
+use Rattle.rules.specs.History.{Call, loading, forcing, basing, resetting, askingHigh, listing, listingUndefined, ending, workFits, leftOver, stateAfter, called}
 use Rattle.rules.proofs.TestLaws.{Every, every-found, all-cons, all-weaken}
 use Rattle.rules.proofs.BoolLaws.{cond-cases}
 use Rattle.rules.proofs.NameLaws.{pack-legal}
@@ -144,7 +144,7 @@ items-sound (i ∷ is) p g h =
 -- ---- LOAD
 
 load-sound : (s : State) (fits : Bool) (file : List ℕ) → Sound s → Sound (stateAfter s (load (holding s) fits file .left))
-unfolding stateAfter load
+unfolding stateAfter loadOver
 load-sound s false file h = h
 load-sound s true file h = go (load-ends s true file)
   where
@@ -156,7 +156,7 @@ load-sound s true file h = go (load-ends s true file)
 
 -- "Demands 2 and 3 hold from every sound state": every call leaves one
 pub called-sound : (s : State) (c : Call) → sound s ≡ true → sound (called s c) ≡ true
-unfolding called leftBy reset stateAfter
+unfolding called leftOver reset stateAfter
 called-sound s (loading work file) h = whole (called s (loading work file)) (load-sound s (workFits work) file (facts s h))
 called-sound s (forcing name) h = whole (called s (forcing name)) (force-sound s name (facts s h))
 called-sound s (basing address) h = whole (called s (basing address)) (base-sound s address (facts s h))

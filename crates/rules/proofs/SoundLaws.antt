@@ -9,7 +9,7 @@ use lib.ListN.{length, getD, set, length-set}
 use lib.Dec.{eqb, ltb, leb}
 use borrow.Author.Tests.{ltb-true, ltb-false, lt-ltb, le-leb, leb-true, leb-false, eqb-true, eq-eqb, eqb-false}
 use Rattle.rules.specs.Text.{all, any, isPacked}
-use Rattle.rules.specs.State.{Symbol, symbol, nameIs, isSymbol, positionOf, Word, unplaced, plain, refers, State, state, soundSymbol, differentNames, soundWord, sound}
+use Rattle.rules.specs.State.{Symbol, symbol, nameIs, isSymbol, positionOf, Word, unplaced, plain, refers, State, state, soundSymbol, soundSymbolOver, differentNames, soundWord, sound, soundOver}
 use Rattle.rules.specs.Reading.{Module}
 use Rattle.rules.specs.Demand.{isExternal, isEntry}
 use Rattle.rules.specs.declared.line.CodeWord.{CodeWord}
@@ -33,7 +33,7 @@ pub record Sound (s : State) : Type 0 where
   pub next : s .next ≤ 4096
 
 pub facts : (s : State) → sound s ≡ true → Sound s
-unfolding sound
+unfolding soundOver
 facts s h =
     let a = leb (length (s .symbols)) 256 in
     let b = all soundSymbol (s .symbols) in
@@ -55,7 +55,7 @@ facts s h =
     }
 
 pub whole : (s : State) → Sound s → sound s ≡ true
-unfolding sound
+unfolding soundOver
 whole s h =
     and-intro
     (le-leb (length (s .symbols)) 256 (h .few))
@@ -68,11 +68,11 @@ whole s h =
 -- ---- symbols
 
 defined-sound : (x v : ℕ) → isPacked x ≡ true → v ≤ 65535 → soundSymbol (symbol x v true) ≡ true
-unfolding soundSymbol
+unfolding soundSymbolOver
 defined-sound x v p q = and-intro p (and-intro (le-leb v 65535 q) refl)
 
 mentioned-sound : (x : ℕ) → isPacked x ≡ true → soundSymbol (symbol x 0 false) ≡ true
-unfolding soundSymbol
+unfolding soundSymbolOver
 mentioned-sound x p = and-intro p refl
 
 define-each : (x v : ℕ) (t : List Symbol) → isPacked x ≡ true → v ≤ 65535 → all soundSymbol t ≡ true → all soundSymbol (define x v t) ≡ true

@@ -11,9 +11,9 @@ use Rattle.rules.specs.Limits.{longestFile}
 use Rattle.rules.specs.Text.{linesOf}
 use Rattle.rules.specs.Line.{faultIn, lineAnswer}
 use Rattle.rules.specs.Faults.{faultNumber, faultsOf, leftmost}
-use Rattle.rules.specs.Reading.{stepOf, unread, stepped, ifComplete, readLine, readLines, readingOf}
+use Rattle.rules.specs.Reading.{stepOf, unread, stepped, ifComplete, readLineOver, readLines, readLinesOver, readingOf, readingOver}
 use Rattle.rules.specs.State.{State, unmarked, broken, marked}
-use Rattle.rules.specs.Load.{loadRead, loadFile}
+use Rattle.rules.specs.Load.{loadReadOver, loadFileOver}
 use Rattle.rules.specs.Calls.{now, holding, outcome, loadAnswer, load}
 use Rattle.rules.specs.declared.line.Fault.{Fault}
 use Rattle.rules.specs.declared.line.LineAnswer.{LineAnswer}
@@ -45,18 +45,18 @@ module _ (before more : List (List ℕ)) (line : List ℕ) (f : Fault) (clean : 
   answers-bad = is-bad _ f (told-leftmost (readLines unread before .mode .expected) line ∙ least)
 
   stops-there : readLines unread (before ++ (line ∷ [])) .fault ≡ Stopped (faultNumber (f .kind)) (length before + 1) (f .column)
-  unfolding unread readLines readLine ifComplete stepped stepOf
+  unfolding unread readLinesOver readLineOver ifComplete stepped stepOf
   stops-there =
       let n : readLines unread before .line ≡ length before + 1 = lines-counted before unread clean ∙ omega arith in
       rw (lines-append before (line ∷ []) unread, clean, answers-bad, n)
 
   reads-so : (file : List ℕ) → linesOf file ≡ before ++ (line ∷ more) →
       readingOf file ≡ Stopped (faultNumber (f .kind)) (length before + 1) (f .column)
-  unfolding readingOf ifComplete
+  unfolding readingOver ifComplete
   reads-so file e = rw (e, sym (append-assoc before (line ∷ []) more), first-fault (before ++ (line ∷ [])) more _ _ _ stops-there, stops-there)
 
   -- whatever stands behind that line
   pub leftmost-told : (s : State) (file : List ℕ) → s .mark ≡ unmarked → length file ≤ longestFile → linesOf file ≡ before ++ (line ∷ more) →
       load (holding s) true file ≡ outcome (loadAnswer (faultNumber (f .kind)) (length before + 1) (f .column) 0) (now (marked broken s))
-  unfolding loadFile loadRead
+  unfolding loadFileOver loadReadOver
   leftmost-told s file m l e = load-reads s file m l ∙ rw (reads-so file e)

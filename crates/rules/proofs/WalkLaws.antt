@@ -10,9 +10,9 @@ use borrow.Author.Tests.{eqb-false, not-true}
 use Rattle.rules.specs.Reading.{Module, Item, free, section, readingOf, itemsOf}
 use Rattle.rules.specs.State.{State, differentNames}
 use Rattle.rules.specs.Placing.{placingFault, placed, twice}
-use Rattle.rules.specs.Load.{refusal, Walk, walking, loaded, accepted, tryPlace, place, takes, searched, sectionNames, testSection, Progress, walkItem, walkItems, walkFrom, Loaded, walked, loadRead, loadFile}
+use Rattle.rules.specs.Load.{refusal, Walk, walking, loaded, accepted, tryPlace, place, takes, searched, sectionNames, testSection, Progress, walkItem, walkItems, walkFrom, Loaded, walked, loadRead, loadReadOver, loadFileOver}
 use Rattle.rules.specs.declared.answer.LoadAnswer.{LoadAnswer}
-use Rattle.rules.specs.Calls.{Outcome, loadOutcome, holding, shutBy, loadState, loadLent, load}
+use Rattle.rules.specs.Calls.{Outcome, loadOutcome, holding, shutBy, loadStateOver, loadLentOver, load, loadOver}
 use Rattle.rules.specs.declared.reading.Reading.{Reading}
 use Rattle.rules.specs.declared.reading.Reading.the-variants.{Complete, Stopped}
 use Rattle.rules.proofs.BoolLaws.{cond-cases, never}
@@ -125,7 +125,7 @@ walked-accepted s p =
 
 read-accepted : (s : State) (file : List ℕ) (r : Reading) → readingNumber r ≡ true → loadRead s file r .refusal .number ≡ 0 →
     let p = walkFrom s (itemsOf file) in (accepted (p .walk) ≡ true) × (loadRead s file r ≡ accomplished p)
-unfolding loadRead readingNumber
+unfolding loadReadOver readingNumber
 read-accepted s file (Stopped k n c) t h = absurd (omega (arith, file-fault-low k (right-fault k c (right-wider k c t))))
 read-accepted s file Complete t h = walked-accepted s (walkFrom s (itemsOf file)) h
 
@@ -138,7 +138,7 @@ pub load-accepted : (s : State) (file : List ℕ) → load (holding s) true file
     (accepted (p .walk) ≡ true)
     × (load (holding s) true file
     ≡ loadOutcome (loaded (refusal 0 0) 0 (p .rounds) (p .walk .state)))
-unfolding load loadLent loadState loadFile
+unfolding loadOver loadLentOver loadStateOver loadFileOver
 load-accepted s file =
     let p = walkFrom s (itemsOf file) in
     let k = shutBy (s .mark) in

@@ -5,11 +5,11 @@ use mathlib.Core.List.{List, [], _∷_, _++_}
 use lib.ListN.{length, getD, drop, replicate}
 use lib.Dec.{eqb, leb, ltb}
 use Rattle.rules.specs.Limits.{longestFile, mostSymbols, largestBase}
-use Rattle.rules.specs.Text.{isName, packName}
+use Rattle.rules.specs.Text.{Alphabet, isNameCharacter, isNameOver, packName}
 use Rattle.rules.specs.Answers.{DONE, BUFFER, DAMAGED, RESET, FROZEN, TOO-LONG, RANGE, TABLE, NAME, OUT}
 use Rattle.rules.specs.State.{Symbol, symbol, State, state, Mark, unmarked, broken, frozen, fresh, marked, isSymbol, positionOf, undefinedOnly, highest, high}
 use Rattle.rules.specs.Placing.{mention}
-use Rattle.rules.specs.Load.{Loaded, loadFile}
+use Rattle.rules.specs.Load.{Loaded, loadFileOver}
 use Rattle.rules.specs.Image.{imageOf}
 use Rattle.rules.specs.declared.answer.LoadAnswer.{LoadAnswer}
 use Rattle.rules.specs.declared.answer.CallAnswer.{CallAnswer}
@@ -60,22 +60,33 @@ loadStopped k = outcome (loadAnswer k 0 0 0) asBefore
 abbrev pub loadOutcome : Loaded → Outcome LoadAnswer
 loadOutcome l = outcome (loadAnswer (l .refusal .number) (l .refusal .line) (l .column) (l .rounds)) (now (l .state))
 
--- 3 and 4, then 5 TOO LONG, then the file
-unfoldable pub loadState : State → List ℕ → Outcome LoadAnswer
-loadState s file =
-    let k = shutBy (s .mark) in
-    let read = loadOutcome (loadFile s file) in
-    cond (not (eqb k DONE)) (loadStopped k) (cond (ltb longestFile (length file)) (loadStopped TOO-LONG) read)
+module _ (alphabet : Alphabet) where
+  -- 3 and 4, then 5 TOO LONG, then the file
+  unfoldable pub loadStateOver : State → List ℕ → Outcome LoadAnswer
+  loadStateOver s file =
+      let k = shutBy (s .mark) in
+      let read = loadOutcome (loadFileOver alphabet s file) in
+      cond (not (eqb k DONE)) (loadStopped k) (cond (ltb longestFile (length file)) (loadStopped TOO-LONG) read)
 
-unfoldable pub loadLent : Lent → List ℕ → Outcome LoadAnswer
-loadLent wrongLength file = loadStopped BUFFER
-loadLent damaged file = loadStopped DAMAGED
-loadLent (holding s) file = loadState s file
+  unfoldable pub loadLentOver : Lent → List ℕ → Outcome LoadAnswer
+  loadLentOver wrongLength file = loadStopped BUFFER
+  loadLentOver damaged file = loadStopped DAMAGED
+  loadLentOver (holding s) file = loadStateOver s file
 
--- 1 BUFFER: "state or work memory hasn't its fixed length"
-unfoldable pub load : Lent → Bool → List ℕ → Outcome LoadAnswer
-load lent false file = loadStopped BUFFER
-load lent true file = loadLent lent file
+  -- 1 BUFFER: "state or work memory hasn't its fixed length"
+  unfoldable pub loadOver : Lent → Bool → List ℕ → Outcome LoadAnswer
+  loadOver lent false file = loadStopped BUFFER
+  loadOver lent true file = loadLentOver lent file
+
+-- by the rules' own alphabet
+abbrev pub loadState : State → List ℕ → Outcome LoadAnswer
+loadState = loadStateOver isNameCharacter
+
+abbrev pub loadLent : Lent → List ℕ → Outcome LoadAnswer
+loadLent = loadLentOver isNameCharacter
+
+abbrev pub load : Lent → Bool → List ℕ → Outcome LoadAnswer
+load = loadOver isNameCharacter
 
 -- ---- FORCE, BASE, RESET
 
@@ -91,19 +102,27 @@ done s = outcome (callAnswer DONE) (now s)
 abbrev pub withSymbols : List Symbol → State → State
 withSymbols t s = state t (s .words) (s .next) (s .mark)
 
--- "FORCE tests 15 before 14, and is DONE without change for a name in the table."
-unfoldable pub forceState : State → List ℕ → Outcome CallAnswer
-forceState s name =
-    let k = shutBy (s .mark) in
-    cond (not (eqb k DONE)) (stopped k)
-    (cond (not (isName name)) (stopped NAME)
-    (cond (isSymbol (packName name) (s .symbols)) (done s)
-    (cond (leb mostSymbols (length (s .symbols))) (stopped TABLE) (done (withSymbols (mention (packName name) (s .symbols)) s)))))
+module _ (alphabet : Alphabet) where
+  -- "FORCE tests 15 before 14, and is DONE without change for a name in the table."
+  unfoldable pub forceStateOver : State → List ℕ → Outcome CallAnswer
+  forceStateOver s name =
+      let k = shutBy (s .mark) in
+      cond (not (eqb k DONE)) (stopped k)
+      (cond (not (isNameOver alphabet name)) (stopped NAME)
+      (cond (isSymbol (packName name) (s .symbols)) (done s)
+      (cond (leb mostSymbols (length (s .symbols))) (stopped TABLE) (done (withSymbols (mention (packName name) (s .symbols)) s)))))
 
-unfoldable pub force : Lent → List ℕ → Outcome CallAnswer
-force wrongLength name = stopped BUFFER
-force damaged name = stopped DAMAGED
-force (holding s) name = forceState s name
+  unfoldable pub forceOver : Lent → List ℕ → Outcome CallAnswer
+  forceOver wrongLength name = stopped BUFFER
+  forceOver damaged name = stopped DAMAGED
+  forceOver (holding s) name = forceStateOver s name
+
+-- by the rules' own alphabet
+abbrev pub forceState : State → List ℕ → Outcome CallAnswer
+forceState = forceStateOver isNameCharacter
+
+abbrev pub force : Lent → List ℕ → Outcome CallAnswer
+force = forceOver isNameCharacter
 
 -- 12 RANGE: "BASE over 4,095"
 unfoldable pub baseState : State → ℕ → Outcome CallAnswer

@@ -6,13 +6,14 @@ use mathlib.Core.List.{List, [], _∷_, _++_}
 use lib.ListN.{length}
 use lib.Dec.{eqb, leb}
 use Rattle.rules.specs.Limits.{workSize}
+use Rattle.rules.specs.Text.{Alphabet, isNameCharacter}
 use Rattle.rules.specs.Reading.{Module, Item, free, section, itemsOf}
 use Rattle.rules.specs.State.{State, fresh}
 use Rattle.rules.specs.Placing.{codeCount}
 use Rattle.rules.specs.Search.{ModuleSet}
 use Rattle.rules.specs.Answers.{DONE, BUFFER, DAMAGED, RESET, FROZEN, TOO-LONG, RANGE, TABLE, NAME, OUT, isFileFault}
 use Rattle.rules.specs.Load.{Progress, progress, walking, searched, testSection, walkItem}
-use Rattle.rules.specs.Calls.{Lent, Left, asBefore, now, holding, workAfter, load, force, base, reset, memory, symbols, undefined, end}
+use Rattle.rules.specs.Calls.{Lent, Left, asBefore, now, holding, workAfter, load, loadOver, forceOver, base, reset, memory, symbols, undefined, end}
 use Rattle.rules.specs.declared.answer.LoadAnswer.{LoadAnswer}
 use Rattle.rules.specs.declared.answer.CallAnswer.{CallAnswer}
 use Rattle.rules.specs.declared.answer.MemoryAnswer.{MemoryAnswer}
@@ -46,16 +47,6 @@ pub data Reply : Type 0 where
 abbrev pub workFits : List ℕ → Bool
 workFits work = eqb (length work) workSize
 
-unfoldable pub replyTo : Lent → Call → Reply
-replyTo m (loading work file) = ofLoad (load m (workFits work) file .answer) (workAfter workSize work)
-replyTo m (forcing name) = ofCall (force m name .answer)
-replyTo m (basing address) = ofCall (base m address .answer)
-replyTo m resetting = ofCall (reset m .answer)
-replyTo m askingHigh = ofMemory (memory m)
-replyTo m (listing i) = ofSymbols (symbols m i)
-replyTo m (listingUndefined i) = ofUndefined (undefined m i)
-replyTo m (ending out) = ofEnd (end m out .call .answer) (end m out .output)
-
 -- the number of a reply
 unfoldable pub numberIn : Reply → ℕ
 numberIn (ofLoad r work) = r .number
@@ -76,16 +67,34 @@ canAnswer (listing i) k = leb k DAMAGED
 canAnswer (listingUndefined i) k = leb k DAMAGED
 canAnswer (ending out) k = leb k RESET || eqb k OUT
 
--- state memory as a call leaves it
-unfoldable pub leftBy : Lent → Call → Left
-leftBy m (loading work file) = load m (workFits work) file .left
-leftBy m (forcing name) = force m name .left
-leftBy m (basing address) = base m address .left
-leftBy m resetting = reset m .left
-leftBy m askingHigh = asBefore
-leftBy m (listing i) = asBefore
-leftBy m (listingUndefined i) = asBefore
-leftBy m (ending out) = end m out .call .left
+module _ (alphabet : Alphabet) where
+  unfoldable pub replyOver : Lent → Call → Reply
+  replyOver m (loading work file) = ofLoad (loadOver alphabet m (workFits work) file .answer) (workAfter workSize work)
+  replyOver m (forcing name) = ofCall (forceOver alphabet m name .answer)
+  replyOver m (basing address) = ofCall (base m address .answer)
+  replyOver m resetting = ofCall (reset m .answer)
+  replyOver m askingHigh = ofMemory (memory m)
+  replyOver m (listing i) = ofSymbols (symbols m i)
+  replyOver m (listingUndefined i) = ofUndefined (undefined m i)
+  replyOver m (ending out) = ofEnd (end m out .call .answer) (end m out .output)
+
+  -- state memory as a call leaves it
+  unfoldable pub leftOver : Lent → Call → Left
+  leftOver m (loading work file) = loadOver alphabet m (workFits work) file .left
+  leftOver m (forcing name) = forceOver alphabet m name .left
+  leftOver m (basing address) = base m address .left
+  leftOver m resetting = reset m .left
+  leftOver m askingHigh = asBefore
+  leftOver m (listing i) = asBefore
+  leftOver m (listingUndefined i) = asBefore
+  leftOver m (ending out) = end m out .call .left
+
+-- by the rules' own alphabet
+abbrev pub replyTo : Lent → Call → Reply
+replyTo = replyOver isNameCharacter
+
+abbrev pub leftBy : Lent → Call → Left
+leftBy = leftOver isNameCharacter
 
 unfoldable pub stateAfter : State → Left → State
 stateAfter s asBefore = s

@@ -7,7 +7,7 @@ use lib.ListN.{length, getD}
 use lib.Dec.{eqb, leb, ltb}
 use Prim.Native.String.{String}
 use Rattle.rules.specs.Limits.{longestLine, largestNumber, mostSubRecords}
-use Rattle.rules.specs.Text.{bytes, sameText, Field, fieldsOf, numberOf, nameOf, legalFront, between}
+use Rattle.rules.specs.Text.{bytes, sameText, Field, fieldsOf, numberOf, Alphabet, isNameCharacter, nameOver, legalFront, between}
 use Rattle.rules.specs.declared.line.FaultKind.{FaultKind}
 use Rattle.rules.specs.declared.line.FaultKind.the-variants.{IllegalByte, BadMarker, FieldCount, BadNumber, BadName, BadType}
 use Rattle.rules.specs.declared.line.Fault.{Fault}
@@ -90,12 +90,6 @@ unfoldable pub inBounds : ℕ → ℕ → FaultKind → Held → Held
 inBounds low high k (value v) = cond (between low high v) (value v) (wrong k)
 inBounds low high k (wrong j) = wrong j
 
-unfoldable pub readField : Kind → List ℕ → Held
-readField (Number low high k) f = inBounds low high k (held BadNumber (numberOf f))
-readField Name f = held BadName (nameOf f)
-readField Anything f = value 0
-readField (Marker c) f = cond (sameText f (markerOf c)) (value 0) (wrong BadMarker)
-
 -- the values of a line's fields, or its leftmost fault among the fields
 pub data Fitted : Type 0 where
   fits : List ℕ → Fitted
@@ -110,13 +104,6 @@ inFront c (wrong k) rest = misfit (fault k c)
 inFront c (value v) (misfit f) = misfit f
 inFront c (value v) (fits vs) = fits (v ∷ vs)
 
--- a field too many is told at its column, a field too few one past the line's last byte
-unfoldable pub fit : ℕ → List Kind → List Field → Fitted
-fit end [] [] = fits []
-fit end [] (f ∷ fs) = misfit (fault FieldCount (f .column))
-fit end (k ∷ ks) [] = misfit (fault FieldCount end)
-fit end (k ∷ ks) (f ∷ fs) = inFront (f .column) (readField k (f .text)) (fit end ks fs)
-
 -- a shape of lines: the kinds of their fields, and what a line says by the fields' values
 pub record Shape : Type 0 where
   pub kinds : List Kind
@@ -129,9 +116,23 @@ unfoldable pub said : (List ℕ → LineAnswer) → Fitted → LineAnswer
 said answer (fits vs) = answer vs
 said answer (misfit f) = Bad f
 
--- what a line of a shape says, or its leftmost fault
-unfoldable pub readAs : Shape → ℕ → List Field → LineAnswer
-readAs s end fs = said (s .says) (fit end (s .kinds) fs)
+module _ (alphabet : Alphabet) where
+  unfoldable pub readFieldOver : Kind → List ℕ → Held
+  readFieldOver (Number low high k) f = inBounds low high k (held BadNumber (numberOf f))
+  readFieldOver Name f = held BadName (nameOver alphabet f)
+  readFieldOver Anything f = value 0
+  readFieldOver (Marker c) f = cond (sameText f (markerOf c)) (value 0) (wrong BadMarker)
+
+  -- a field too many is told at its column, a field too few one past the line's last byte
+  unfoldable pub fitOver : ℕ → List Kind → List Field → Fitted
+  fitOver end [] [] = fits []
+  fitOver end [] (f ∷ fs) = misfit (fault FieldCount (f .column))
+  fitOver end (k ∷ ks) [] = misfit (fault FieldCount end)
+  fitOver end (k ∷ ks) (f ∷ fs) = inFront (f .column) (readFieldOver k (f .text)) (fitOver end ks fs)
+
+  -- what a line of a shape says, or its leftmost fault
+  unfoldable pub readAsOver : Shape → ℕ → List Field → LineAnswer
+  readAsOver s end fs = said (s .says) (fitOver end (s .kinds) fs)
 
 -- ---- headers
 
@@ -232,15 +233,6 @@ shapeFor InitRecord fs = some (recordShape initRecord)
 shapeFor ParameterRecord fs = some (recordShape parameterRecord)
 shapeFor SubRecord fs = some (recordShape subRecord)
 
--- "A line with no field is skipped but counted"; a code that is unknown or no number is a fault of its own
-unfoldable pub sayFields : ℕ → List Field → Option Shape → LineAnswer
-sayFields end [] s = Blank
-sayFields end (f ∷ fs) none = Bad (fault BadMarker (f .column))
-sayFields end (f ∷ fs) (some s) = readAs s end (f ∷ fs)
-
-unfoldable pub lineOf : Expected → ℕ → List Field → LineAnswer
-lineOf w end fs = sayFields end fs (shapeFor w fs)
-
 -- the fault that is told, if any
 unfoldable pub faultIn : LineAnswer → Option Fault
 faultIn (Bad f) = some f
@@ -265,6 +257,36 @@ unfoldable pub testBytes : ℕ → ℕ → LineAnswer → LineAnswer
 testBytes front size answer =
     cond (leb size front) answer (cond (within front (faultIn answer)) answer (Bad (fault IllegalByte (front + 1))))
 
--- what a line says, given what is expected of it
-unfoldable pub lineAnswer : Expected → List ℕ → LineAnswer
-lineAnswer w line = testBytes (legalFront longestLine line) (length line) (lineOf w (length line + 1) (fieldsOf line))
+module _ (alphabet : Alphabet) where
+  -- "A line with no field is skipped but counted"; a code that is unknown or no number is a fault of its own
+  unfoldable pub sayFieldsOver : ℕ → List Field → Option Shape → LineAnswer
+  sayFieldsOver end [] s = Blank
+  sayFieldsOver end (f ∷ fs) none = Bad (fault BadMarker (f .column))
+  sayFieldsOver end (f ∷ fs) (some s) = readAsOver alphabet s end (f ∷ fs)
+
+  unfoldable pub lineOver : Expected → ℕ → List Field → LineAnswer
+  lineOver w end fs = sayFieldsOver end fs (shapeFor w fs)
+
+  -- what a line says, given what is expected of it
+  unfoldable pub lineAnswerOver : Expected → List ℕ → LineAnswer
+  lineAnswerOver w line = testBytes (legalFront longestLine line) (length line) (lineOver w (length line + 1) (fieldsOf line))
+
+-- ---- by the rules' own alphabet
+
+abbrev pub readField : Kind → List ℕ → Held
+readField = readFieldOver isNameCharacter
+
+abbrev pub fit : ℕ → List Kind → List Field → Fitted
+fit = fitOver isNameCharacter
+
+abbrev pub readAs : Shape → ℕ → List Field → LineAnswer
+readAs = readAsOver isNameCharacter
+
+abbrev pub sayFields : ℕ → List Field → Option Shape → LineAnswer
+sayFields = sayFieldsOver isNameCharacter
+
+abbrev pub lineOf : Expected → ℕ → List Field → LineAnswer
+lineOf = lineOver isNameCharacter
+
+abbrev pub lineAnswer : Expected → List ℕ → LineAnswer
+lineAnswer = lineAnswerOver isNameCharacter

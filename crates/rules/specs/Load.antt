@@ -4,9 +4,9 @@ use mathlib.Core.Bool.{Bool, true, false, cond, not, _&&_, _||_}
 use mathlib.Core.List.{List, [], _∷_, _++_, map}
 use lib.ListN.{length}
 use lib.Dec.{eqb, ltb}
-use Rattle.rules.specs.Text.{any}
+use Rattle.rules.specs.Text.{any, Alphabet, isNameCharacter}
 use Rattle.rules.specs.Answers.{DONE, DUPLICATE}
-use Rattle.rules.specs.Reading.{Module, Item, free, section, readingOf, itemsOf}
+use Rattle.rules.specs.Reading.{Module, Item, free, section, readingOver, itemsOver}
 use Rattle.rules.specs.State.{State, marked, broken, isUndefined}
 use Rattle.rules.specs.Placing.{entries, entryName, placingFault, placed, twice}
 use Rattle.rules.specs.Search.{Found, count, search}
@@ -128,11 +128,19 @@ walked s p =
     (loaded (refusal DONE 0) 0 (p .rounds) (p .walk .state))
     (loaded (p .walk .refusal) 0 0 (marked broken s))
 
--- "These set the broken mark as 6 did", and "each also tells the column"
-unfoldable pub loadRead : State → List ℕ → Reading → Loaded
-loadRead s file (Stopped k n c) = loaded (refusal k n) c 0 (marked broken s)
-loadRead s file Complete = walked s (walkFrom s (itemsOf file))
+module _ (alphabet : Alphabet) where
+  -- "These set the broken mark as 6 did", and "each also tells the column"
+  unfoldable pub loadReadOver : State → List ℕ → Reading → Loaded
+  loadReadOver s file (Stopped k n c) = loaded (refusal k n) c 0 (marked broken s)
+  loadReadOver s file Complete = walked s (walkFrom s (itemsOver alphabet file))
 
--- "then the whole file is read [..] Then the walk"
-unfoldable pub loadFile : State → List ℕ → Loaded
-loadFile s file = loadRead s file (readingOf file)
+  -- "then the whole file is read [..] Then the walk"
+  unfoldable pub loadFileOver : State → List ℕ → Loaded
+  loadFileOver s file = loadReadOver s file (readingOver alphabet file)
+
+-- by the rules' own alphabet
+abbrev pub loadRead : State → List ℕ → Reading → Loaded
+loadRead = loadReadOver isNameCharacter
+
+abbrev pub loadFile : State → List ℕ → Loaded
+loadFile = loadFileOver isNameCharacter

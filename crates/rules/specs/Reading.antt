@@ -4,9 +4,9 @@ use mathlib.Core.Bool.{Bool, true, false, cond, not, _&&_, _||_}
 use mathlib.Core.List.{List, [], _∷_, _++_}
 use lib.Dec.{eqb, leb, ltb}
 use Rattle.rules.specs.Limits.{mostEntries, mostExternals, mostModules}
-use Rattle.rules.specs.Text.{linesOf}
+use Rattle.rules.specs.Text.{linesOf, Alphabet, isNameCharacter}
 use Rattle.rules.specs.Answers.{PLACE, LIST}
-use Rattle.rules.specs.Line.{lineAnswer}
+use Rattle.rules.specs.Line.{lineAnswerOver}
 use Rattle.rules.specs.Faults.{faultNumber}
 use Rattle.rules.specs.declared.line.Fault.{Fault}
 use Rattle.rules.specs.declared.line.CodeWord.{CodeWord}
@@ -186,9 +186,6 @@ stepOf n m Ignored = Next (recordDone (m .expected) m)
 stepOf n m (Parameter size) = parameterStep m size
 stepOf n m Sub = subStep m
 
-abbrev pub stepAt : ℕ → Mode → List ℕ → Step
-stepAt n m line = stepOf n m (lineAnswer (m .expected) line)
-
 -- ---- what a file holds
 
 -- a module: the line of its TITLE header and its parts, in file order
@@ -244,14 +241,6 @@ unfoldable pub ifComplete : {A : Type 0} → Reading → A → A → A
 ifComplete Complete x y = x
 ifComplete (Stopped k n c) x y = y
 
--- after a fault nothing more is read
-unfoldable pub readLine : ReadSoFar → List ℕ → ReadSoFar
-readLine r l = ifComplete (r .fault) (stepped r (stepAt (r .line) (r .mode) l)) r
-
-unfoldable pub readLines : ReadSoFar → List (List ℕ) → ReadSoFar
-readLines r [] = r
-readLines r (l ∷ ls) = readLines (readLine r l) ls
-
 unfoldable pub isHeader : Expected → Bool
 isHeader AnyHeader = true
 isHeader OpeningTitle = false
@@ -272,10 +261,39 @@ atEnd n m =
 abbrev pub ended : ReadSoFar → Reading
 ended r = ifComplete (r .fault) (atEnd (r .line) (r .mode)) (r .fault)
 
--- "the whole file is read, and the earliest line with 6, 7 or 8 decides", or with one of the numbers that are split from 6
-unfoldable pub readingOf : List ℕ → Reading
-readingOf file = ended (readLines unread (linesOf file))
+module _ (alphabet : Alphabet) where
+  abbrev pub stepOver : ℕ → Mode → List ℕ → Step
+  stepOver n m line = stepOf n m (lineAnswerOver alphabet (m .expected) line)
 
--- what a file holds, or holds up to the line of its fault
-unfoldable pub itemsOf : List ℕ → List Item
-itemsOf file = readLines unread (linesOf file) .items
+  -- after a fault nothing more is read
+  unfoldable pub readLineOver : ReadSoFar → List ℕ → ReadSoFar
+  readLineOver r l = ifComplete (r .fault) (stepped r (stepOver (r .line) (r .mode) l)) r
+
+  unfoldable pub readLinesOver : ReadSoFar → List (List ℕ) → ReadSoFar
+  readLinesOver r [] = r
+  readLinesOver r (l ∷ ls) = readLinesOver (readLineOver r l) ls
+
+  -- "the whole file is read, and the earliest line with 6, 7 or 8 decides", or with one of the numbers that are split from 6
+  unfoldable pub readingOver : List ℕ → Reading
+  readingOver file = ended (readLinesOver unread (linesOf file))
+
+  -- what a file holds, or holds up to the line of its fault
+  unfoldable pub itemsOver : List ℕ → List Item
+  itemsOver file = readLinesOver unread (linesOf file) .items
+
+-- ---- by the rules' own alphabet
+
+abbrev pub stepAt : ℕ → Mode → List ℕ → Step
+stepAt = stepOver isNameCharacter
+
+abbrev pub readLine : ReadSoFar → List ℕ → ReadSoFar
+readLine = readLineOver isNameCharacter
+
+abbrev pub readLines : ReadSoFar → List (List ℕ) → ReadSoFar
+readLines = readLinesOver isNameCharacter
+
+abbrev pub readingOf : List ℕ → Reading
+readingOf = readingOver isNameCharacter
+
+abbrev pub itemsOf : List ℕ → List Item
+itemsOf = itemsOver isNameCharacter

@@ -5,7 +5,7 @@ use mathlib.Core.List.{List, [], _∷_}
 use lib.ListN.{length, getD, replicate}
 use lib.Dec.{eqb, leb, ltb}
 use Rattle.rules.specs.Limits.{programWords, mostSymbols, largestNumber, noAddress}
-use Rattle.rules.specs.Text.{all, any, isPacked}
+use Rattle.rules.specs.Text.{all, any, Alphabet, isNameCharacter, isPackedOver}
 
 -- a symbol of the table: its packed name, its value, and whether it has an entry
 pub record Symbol : Type 0 where
@@ -106,10 +106,6 @@ high ws = highestWhere isPlaced ws
 
 -- ---- soundness
 
--- "names are legal", "undefined values are 0"; a value is a number of sixteen bits
-unfoldable pub soundSymbol : Symbol → Bool
-soundSymbol s = isPacked (s .name) && (leb (s .value) largestNumber && (s .defined || eqb (s .value) 0))
-
 -- "names are [..] different"
 unfoldable pub differentNames : List Symbol → Bool
 differentNames [] = true
@@ -121,10 +117,22 @@ soundWord n unplaced = true
 soundWord n (plain x) = ltb x (2 ^ 64)
 soundWord n (refers x i) = ltb x (2 ^ 64) && ltb i n
 
--- "counts and the next address are in their limits"; "it isn't both broken and frozen" by the type Mark
-unfoldable pub sound : State → Bool
-sound s =
-    leb (length (s .symbols)) mostSymbols
-    && (all soundSymbol (s .symbols)
-    && (differentNames (s .symbols)
-    && (eqb (length (s .words)) programWords && (all (soundWord (length (s .symbols))) (s .words) && leb (s .next) programWords))))
+module _ (alphabet : Alphabet) where
+  -- "names are legal", "undefined values are 0"; a value is a number of sixteen bits
+  unfoldable pub soundSymbolOver : Symbol → Bool
+  soundSymbolOver s = isPackedOver alphabet (s .name) && (leb (s .value) largestNumber && (s .defined || eqb (s .value) 0))
+
+  -- "counts and the next address are in their limits"; "it isn't both broken and frozen" by the type Mark
+  unfoldable pub soundOver : State → Bool
+  soundOver s =
+      leb (length (s .symbols)) mostSymbols
+      && (all soundSymbolOver (s .symbols)
+      && (differentNames (s .symbols)
+      && (eqb (length (s .words)) programWords && (all (soundWord (length (s .symbols))) (s .words) && leb (s .next) programWords))))
+
+-- by the rules' own alphabet
+abbrev pub soundSymbol : Symbol → Bool
+soundSymbol = soundSymbolOver isNameCharacter
+
+abbrev pub sound : State → Bool
+sound = soundOver isNameCharacter

@@ -128,20 +128,39 @@ numberOf ds = cond (isNumber ds) (some (octal 0 ds)) none
 abbrev pub isLetter : ℕ → Bool
 isLetter b = between 65 90 b
 
-abbrev pub isLetterOrDigit : ℕ → Bool
-isLetterOrDigit b = isLetter b || between 48 57 b
+abbrev pub isDigit : ℕ → Bool
+isDigit b = between 48 57 b
 
--- "Names are 1 to 6 characters, A to Z and 0 to 9, the first a letter."
-unfoldable pub isName : List ℕ → Bool
-isName cs = between 1 longestName (length cs) && (isLetter (getD cs 0 0) && all isLetterOrDigit cs)
+abbrev pub dollar : ℕ
+dollar = 36
+
+abbrev pub dot : ℕ
+dot = 46
+
+-- An alphabet: the characters that a name may have. What a name is, and each rule that asks for one, is said over an alphabet, and
+-- then by the rules' own.
+abbrev pub Alphabet : Type 0
+Alphabet = ℕ → Bool
+
+-- document 02, 4/14: "After the first letter allow `$` and `.` too". The rules' own alphabet.
+unfoldable pub isNameCharacter : Alphabet
+isNameCharacter b = isLetter b || (isDigit b || (eqb b dollar || eqb b dot))
+
+-- document 01: "A to Z and 0 to 9". No rule goes by it any more; it is kept to say what was accepted before.
+unfoldable pub isLetterOrDigit : Alphabet
+isLetterOrDigit b = isLetter b || isDigit b
+
+-- "Names are 1 to 6 characters, [..] the first a letter."
+unfoldable pub isNameOver : Alphabet → List ℕ → Bool
+isNameOver alphabet cs = between 1 longestName (length cs) && (isLetter (getD cs 0 0) && all alphabet cs)
 
 -- A name is kept as one number: its six bytes in base 256, the first highest, 0 where it is shorter.
 unfoldable pub packName : List ℕ → ℕ
 packName cs =
     ((((getD cs 0 0 * 256 + getD cs 1 0) * 256 + getD cs 2 0) * 256 + getD cs 3 0) * 256 + getD cs 4 0) * 256 + getD cs 5 0
 
-unfoldable pub nameOf : List ℕ → Option ℕ
-nameOf cs = cond (isName cs) (some (packName cs)) none
+unfoldable pub nameOver : Alphabet → List ℕ → Option ℕ
+nameOver alphabet cs = cond (isNameOver alphabet cs) (some (packName cs)) none
 
 -- the bytes up to the first 0
 unfoldable pub upToZero : List ℕ → List ℕ
@@ -161,5 +180,15 @@ unpackName n =
     ∷ [])
 
 -- is the number a legal name's
-unfoldable pub isPacked : ℕ → Bool
-isPacked n = isName (unpackName n) && eqb (packName (unpackName n)) n
+unfoldable pub isPackedOver : Alphabet → ℕ → Bool
+isPackedOver alphabet n = isNameOver alphabet (unpackName n) && eqb (packName (unpackName n)) n
+
+-- by the rules' own alphabet
+abbrev pub isName : List ℕ → Bool
+isName = isNameOver isNameCharacter
+
+abbrev pub nameOf : List ℕ → Option ℕ
+nameOf = nameOver isNameCharacter
+
+abbrev pub isPacked : ℕ → Bool
+isPacked = isPackedOver isNameCharacter

@@ -9,7 +9,7 @@ use borrow.Author.Tests.{leb-true, eqb-true, eqb-false, le-leb, lt-ltb, ne-eqb}
 use lib.ListN.{getD}
 use lib.Dec.{eqb, leb, ltb}
 use Rattle.rules.specs.Text.{all, any, between, isPacked}
-use Rattle.rules.specs.State.{Symbol, nameIs, isSymbol, differentNames, soundSymbol, Word, unplaced, plain, refers, soundWord}
+use Rattle.rules.specs.State.{Symbol, nameIs, isSymbol, differentNames, soundSymbol, soundSymbolOver, Word, unplaced, plain, refers, soundWord}
 use Rattle.state.specs.Layout.{valueCell, textCell, tagCell, symbolOf, wordOf, numbers, range, symbolIn, symbolsFrom}
 use Rattle.state.proofs.BoolLaws.{both, first, second}
 use Rattle.state.proofs.LayoutLaws.{word-back}
@@ -36,7 +36,7 @@ value-back x v e =
     (λ k h. rw (ne-eqb (k + 65536) 0 (omega arith)) (omega arith))
 
 pub symbol-sound : (x v : ℕ) → isPacked x ≡ true → valueSound v ≡ true → soundSymbol (symbolOf x v) ≡ true
-unfolding soundSymbol
+unfolding soundSymbolOver
 symbol-sound x v p e =
     value-cases v e (λ v. soundSymbol (symbolOf x v) ≡ true)
     (both (isPacked x) true p refl)

@@ -10,7 +10,8 @@ use borrow.Author.Tests.{leb-true, eqb-true, eqb-false, le-leb, eq-eqb, ne-eqb}
 use lib.ListN.{length, getD, drop}
 use lib.Seq.{getD-drop, drop-drop}
 use lib.Dec.{eqb, leb}
-use Rattle.rules.specs.Text.{all, between, isLetter, isLetterOrDigit, isName, packName, upToZero, unpackName, isPacked}
+use Rattle.text.proofs.NameLaws.{letter}
+use Rattle.rules.specs.Text.{all, between, isLetter, isNameCharacter, isName, isNameOver, packName, upToZero, unpackName, isPacked, isPackedOver}
 use Rattle.state.proofs.BoolLaws.{both, first, second, same-test}
 use Rattle.soundness.specs.Checks.{goesOn}
 
@@ -39,7 +40,7 @@ zero-goes : (bs : List ℕ) → num bs ≡ 0 → goOn bs ≡ true
 unfolding num goOn
 zero-goes [] e = refl
 zero-goes (b ∷ bs) e =
-    both (goesOn (num (b ∷ bs)) b) (goOn bs) (ap (λ (t : Bool). t || isLetterOrDigit b) (eq-eqb (num (b ∷ bs)) 0 e)) (zero-goes bs (omega arith))
+    both (goesOn (num (b ∷ bs)) b) (goOn bs) (ap (λ (t : Bool). t || isNameCharacter b) (eq-eqb (num (b ∷ bs)) 0 e)) (zero-goes bs (omega arith))
 
 and-assoc : (a b c : Bool) → a && (b && c) ≡ (a && b) && c
 and-assoc true b c = refl
@@ -59,8 +60,12 @@ or-first : (a b : Bool) → b ≡ false → a || b ≡ true → a ≡ true
 or-first true b e h = refl
 or-first false b e h = sym e ∙ h
 
--- the bytes go on exactly if those in front of the first zero are letters or digits, and all behind it are zeros
-goes-on : (bs : List ℕ) → goOn bs ≡ all isLetterOrDigit (upToZero bs) && eqb (front (length bs) (upToZero bs)) (num bs)
+zero-is-none : isNameCharacter 0 ≡ false
+unfolding isNameCharacter
+zero-is-none = refl
+
+-- the bytes go on exactly if those in front of the first zero are characters of names, and all behind it are zeros
+goes-on : (bs : List ℕ) → goOn bs ≡ all isNameCharacter (upToZero bs) && eqb (front (length bs) (upToZero bs)) (num bs)
 unfolding goOn front num upToZero all
 goes-on [] = refl
 goes-on (b ∷ bs) = go (eqb b 0) refl (goes-on bs)
@@ -71,27 +76,27 @@ goes-on (b ∷ bs) = go (eqb b 0) refl (goes-on bs)
     N : ℕ
     N = b * 256 ^ length bs + num bs
 
-    go : (z : Bool) → eqb b 0 ≡ z → goOn bs ≡ all isLetterOrDigit u && eqb (front (length bs) u) (num bs) → goesOn N b && goOn bs ≡ all isLetterOrDigit (cond z [] (b ∷ u)) && eqb (front (suc (length bs)) (cond z [] (b ∷ u))) N
+    go : (z : Bool) → eqb b 0 ≡ z → goOn bs ≡ all isNameCharacter u && eqb (front (length bs) u) (num bs) → goesOn N b && goOn bs ≡ all isNameCharacter (cond z [] (b ∷ u)) && eqb (front (suc (length bs)) (cond z [] (b ∷ u))) N
     go true e f =
         let z : b ≡ 0 = eqb-true b 0 e in
         let same : N ≡ num bs = ap (λ (k : ℕ). k * 256 ^ length bs + num bs) z ∙ omega arith in
         let empty : front (length bs) [] ≡ 0 = front-none (length bs) in
         same-test (goesOn N b && goOn bs) (eqb (0 * 256 ^ length bs + front (length bs) []) N)
         (λ h.
-        let none : N ≡ 0 = eqb-true N 0 (or-first (eqb N 0) (isLetterOrDigit b) (ap isLetterOrDigit z) (first (goesOn N b) (goOn bs) h)) in
+        let none : N ≡ 0 = eqb-true N 0 (or-first (eqb N 0) (isNameCharacter b) (ap isNameCharacter z ∙ zero-is-none) (first (goesOn N b) (goOn bs) h)) in
         eq-eqb (0 * 256 ^ length bs + front (length bs) []) N (omega arith))
         (λ h.
         let none : 0 * 256 ^ length bs + front (length bs) [] ≡ N = eqb-true (0 * 256 ^ length bs + front (length bs) []) N h in
         both (goesOn N b) (goOn bs)
-        (ap (λ (t : Bool). t || isLetterOrDigit b) (eq-eqb N 0 (omega arith)))
+        (ap (λ (t : Bool). t || isNameCharacter b) (eq-eqb N 0 (omega arith)))
         (zero-goes bs (omega arith)))
     go false e f =
         let some : b ≢ 0 = eqb-false b 0 e in
         let much : 0 < b * 256 ^ length bs = mul-pos (omega arith) (one-le-pow (length bs) 256 (omega arith)) in
         ap₂ _&&_
-        (ap (λ (t : Bool). t || isLetterOrDigit b) (ne-eqb N 0 (omega arith)))
-        (f ∙ ap (λ (t : Bool). all isLetterOrDigit u && t) (eqb-add (b * 256 ^ length bs) (front (length bs) u) (num bs)))
-        ∙ and-assoc (isLetterOrDigit b) (all isLetterOrDigit u) (eqb (b * 256 ^ length bs + front (length bs) u) N)
+        (ap (λ (t : Bool). t || isNameCharacter b) (ne-eqb N 0 (omega arith)))
+        (f ∙ ap (λ (t : Bool). all isNameCharacter u && t) (eqb-add (b * 256 ^ length bs) (front (length bs) u) (num bs)))
+        ∙ and-assoc (isNameCharacter b) (all isNameCharacter u) (eqb (b * 256 ^ length bs + front (length bs) u) N)
 
 -- what stands in front of the first zero is no more than all
 front-most : (bs : List ℕ) → front (length bs) (upToZero bs) ≤ num bs
@@ -162,14 +167,14 @@ no-letter q e = go (leb 65 q) (leb q 90) refl refl
 
 -- a first byte b in front of the others; q is all that stands in front of these
 first-byte : (n b q : ℕ) (bs : List ℕ) → b ≡ q % 256 → n ≡ q * 1099511627776 + num bs → num bs < 1099511627776 → length bs ≡ 5 → isName (upToZero (b ∷ bs)) && eqb (packName (upToZero (b ∷ bs))) n ≡ isLetter q && goOn bs
-unfolding upToZero isName all
+unfolding upToZero isNameOver all
 first-byte n b q bs eb en small five = go (eqb b 0) refl
   where
     u : List ℕ
     u = upToZero bs
 
     A : Bool
-    A = all isLetterOrDigit u
+    A = all isNameCharacter u
 
     F : ℕ
     F = front (length bs) u
@@ -179,35 +184,35 @@ first-byte n b q bs eb en small five = go (eqb b 0) refl
 
     legal : isLetter b ≡ true → A ≡ true → isName (b ∷ u) ≡ true
     legal l a =
-        both (between 1 6 (suc (length u))) (isLetter b && (isLetterOrDigit b && A))
+        both (between 1 6 (suc (length u))) (isLetter b && (isNameCharacter b && A))
         (both (leb 1 (suc (length u))) (leb (suc (length u)) 6) (le-leb 1 (suc (length u)) (omega arith)) (le-leb (suc (length u)) 6 (omega (arith, shorter bs))))
-        (both (isLetter b) (isLetterOrDigit b && A) l (both (isLetterOrDigit b) A (ap (λ (t : Bool). t || between 48 57 b) l) a))
+        (both (isLetter b) (isNameCharacter b && A) l (both (isNameCharacter b) A (letter b l) a))
 
     go : (z : Bool) → eqb b 0 ≡ z → isName (cond z [] (b ∷ u)) && eqb (packName (cond z [] (b ∷ u))) n ≡ isLetter q && goOn bs
     go true e = sym (ap (λ (t : Bool). t && goOn bs) (no-letter q (sym eb ∙ eqb-true b 0 e)))
     go false e =
         same-test (isName (b ∷ u) && eqb (packName (b ∷ u)) n) (isLetter q && goOn bs)
         (λ h.
-        let name = second (between 1 6 (suc (length u))) (isLetter b && (isLetterOrDigit b && A)) (first (isName (b ∷ u)) (eqb (packName (b ∷ u)) n) h) in
+        let name = second (between 1 6 (suc (length u))) (isLetter b && (isNameCharacter b && A)) (first (isName (b ∷ u)) (eqb (packName (b ∷ u)) n) h) in
         let same : packName (b ∷ u) ≡ n = eqb-true (packName (b ∷ u)) n (second (isName (b ∷ u)) (eqb (packName (b ∷ u)) n) h) in
         let most : F ≤ num bs = front-most bs in
         let all-of : q ≡ b = omega (arith, packed) in
         both (isLetter q) (goOn bs)
-        (ap isLetter all-of ∙ first (isLetter b) (isLetterOrDigit b && A) name)
-        (goes-on bs ∙ both A (eqb F (num bs)) (second (isLetterOrDigit b) A (second (isLetter b) (isLetterOrDigit b && A) name)) (eq-eqb F (num bs) (omega (arith, packed)))))
+        (ap isLetter all-of ∙ first (isLetter b) (isNameCharacter b && A) name)
+        (goes-on bs ∙ both A (eqb F (num bs)) (second (isNameCharacter b) A (second (isLetter b) (isNameCharacter b && A) name)) (eq-eqb F (num bs) (omega (arith, packed)))))
         (λ h.
-        let letter = first (isLetter q) (goOn bs) h in
+        let is-letter = first (isLetter q) (goOn bs) h in
         let rest : A && eqb F (num bs) ≡ true = sym (goes-on bs) ∙ second (isLetter q) (goOn bs) h in
-        let low : q ≤ 90 = leb-true q 90 (second (leb 65 q) (leb q 90) letter) in
+        let low : q ≤ 90 = leb-true q 90 (second (leb 65 q) (leb q 90) is-letter) in
         let all-of : b ≡ q = omega arith in
         let equal : F ≡ num bs = eqb-true F (num bs) (second A (eqb F (num bs)) rest) in
         both (isName (b ∷ u)) (eqb (packName (b ∷ u)) n)
-        (legal (ap isLetter all-of ∙ letter) (first A (eqb F (num bs)) rest))
+        (legal (ap isLetter all-of ∙ is-letter) (first A (eqb F (num bs)) rest))
         (eq-eqb (packName (b ∷ u)) n (omega (arith, packed))))
 
 -- in the words of the code
 pub packed-is : (n : ℕ) → isPacked n ≡ isLetter (n / 1099511627776) && (goesOn (n % 1099511627776) (n / 4294967296 % 256) && (goesOn (n % 4294967296) (n / 16777216 % 256) && (goesOn (n % 16777216) (n / 65536 % 256) && (goesOn (n % 65536) (n / 256 % 256) && goesOn (n % 256) (n % 256)))))
-unfolding isPacked unpackName tail
+unfolding isPackedOver unpackName tail
 packed-is n =
     first-byte n (n / 256 ^ 5 % 256) (n / 1099511627776) (tail n) refl (omega (arith, num-5 n)) (omega (arith, num-5 n)) refl
     ∙ ap (λ (t : Bool). isLetter (n / 1099511627776) && t) (tail-goes n)

@@ -12,9 +12,9 @@ use lib.Dec.{eqb, leb, ltb}
 use mir.Syntax.{w64}
 use mir.Val.{Fits}
 use Rattle.rules.specs.Text.{all, isPacked}
-use Rattle.rules.specs.State.{Symbol, Mark, unmarked, broken, frozen, unplaced, State, soundSymbol, differentNames, soundWord, sound}
+use Rattle.rules.specs.State.{Symbol, Mark, unmarked, broken, frozen, unplaced, State, soundSymbol, soundSymbolOver, differentNames, soundWord, sound, soundOver}
 use Rattle.rules.specs.Calls.{wrongLength, damaged, holding}
-use Rattle.state.specs.Layout.{size, nameCell, valueCell, textCell, tagCell, markCell, encode, range, symbolIn, wordIn, symbolsFrom, wordsBelow, decode, soundCells, lent}
+use Rattle.state.specs.Layout.{size, nameCell, valueCell, textCell, tagCell, markCell, encode, range, symbolIn, wordIn, symbolsFrom, wordsBelow, decode, soundCells, lent, lentOver}
 use Rattle.state.specs.Good.{soundValue, Good}
 use Rattle.state.specs.Table.{noSymbol}
 use Rattle.state.proofs.BoolLaws.{both, first, second, same-test}
@@ -151,7 +151,7 @@ module _ (cells : List ℕ) where
     low′ = le-leb (getD cells 1 0) 4096 (header-parts headed .1)
 
     sound-now : sound d ≡ true
-    unfolding sound
+    unfolding soundOver
     sound-now =
         rw (le-leb (length (d .symbols)) 256 few′, all-symbols, different, eq-eqb (length (d .words)) 4096 (words-long cells), count-is cells, all-words, low′)
 
@@ -187,7 +187,7 @@ module _ (cells : List ℕ) where
     values-from = zeroes-from 260 (unused-value g)
 
     pub symbols-from : symbolsSound cells n ≡ true
-    unfolding symbolsSound soundSymbol soundValue
+    unfolding symbolsSound soundSymbolOver soundValue
     symbols-from =
         range-all (symbolSoundAt cells) 0 n
         (λ i l u.
@@ -213,7 +213,7 @@ module _ (cells : List ℕ) where
 
 module _ (cells : List ℕ) where
   held-is : isHeld (lent cells) ≡ eqb (length cells) size && soundCells cells
-  unfolding isHeld lent
+  unfolding isHeld lentOver
   held-is = go (eqb (length cells) size) (soundCells cells)
     where
       go : (a b : Bool) → isHeld (cond a (cond b (holding (decode cells)) damaged) wrongLength) ≡ a && b

@@ -5,14 +5,14 @@ use mathlib.Core.List.{List}
 use mathlib.Core.Path.{_≡_}
 use lib.ListN.{length, getD}
 use lib.Dec.{eqb, leb}
-use Rattle.rules.specs.Text.{all, between, isLetterOrDigit, isPacked}
+use Rattle.rules.specs.Text.{all, between, isNameCharacter, isPacked}
 use Rattle.rules.specs.Calls.{Lent, wrongLength, damaged, holding}
 use Rattle.state.specs.Layout.{namesAt, valuesAt, textsAt, tagsAt, range, decode, lent}
 use Rattle.state.specs.Good.{Good}
 
--- the rest of a packed name, whose next byte is b: nothing, or it goes on with a letter or a digit
+-- the rest of a packed name, whose next byte is b: nothing, or it goes on with a character of names
 abbrev pub goesOn : ℕ → ℕ → Bool
-goesOn rest b = eqb rest 0 || isLetterOrDigit b
+goesOn rest b = eqb rest 0 || isNameCharacter b
 
 -- count and next address within their limits, a mark, a spare cell of 0
 unfoldable pub headerSound : List ℕ → Bool

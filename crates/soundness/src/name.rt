@@ -1,6 +1,7 @@
 // Packed names: six bytes, the first highest, zeros behind a shorter name.
+use text::names::is_name_character;
 ghost use mathlib.Core.Path.{_≡_};
-ghost use Rattle.rules.specs.Text.{isLetter, isLetterOrDigit, isPacked};
+ghost use Rattle.rules.specs.Text.{isLetter, isPacked};
 ghost use Rattle.soundness.specs.Checks.{goesOn};
 
 fn is_letter(b: u64) -> bool
@@ -12,26 +13,14 @@ fn is_letter(b: u64) -> bool
     b <= 90
 }
 
-fn is_letter_or_digit(b: u64) -> bool
-    ensures { λ r. ⌜ r ≡ isLetterOrDigit b ⌝ }
-{
-    if is_letter(b) {
-        return true;
-    }
-    if b < 48 {
-        return false;
-    }
-    b <= 57
-}
-
-// The rest of a name, whose next byte is b: nothing, or it goes on with a letter or a digit.
-fn goes_on(rest: u64, b: u64) -> bool
+// The rest of a name, whose next byte is b: nothing, or it goes on with a character of names.
+fn goes_on(rest: u64, b: u8) -> bool
     ensures { λ r. ⌜ r ≡ goesOn rest b ⌝ }
 {
     if rest == 0 {
         return true;
     }
-    is_letter_or_digit(b)
+    is_name_character(b)
 }
 
 pub fn is_packed(n: u64) -> bool
@@ -40,17 +29,17 @@ pub fn is_packed(n: u64) -> bool
     if !is_letter(n / 1099511627776) {
         return false;
     }
-    if !goes_on(n % 1099511627776, n / 4294967296 % 256) {
+    if !goes_on(n % 1099511627776, (n / 4294967296 % 256) as u8) {
         return false;
     }
-    if !goes_on(n % 4294967296, n / 16777216 % 256) {
+    if !goes_on(n % 4294967296, (n / 16777216 % 256) as u8) {
         return false;
     }
-    if !goes_on(n % 16777216, n / 65536 % 256) {
+    if !goes_on(n % 16777216, (n / 65536 % 256) as u8) {
         return false;
     }
-    if !goes_on(n % 65536, n / 256 % 256) {
+    if !goes_on(n % 65536, (n / 256 % 256) as u8) {
         return false;
     }
-    goes_on(n % 256, n % 256)
+    goes_on(n % 256, (n % 256) as u8)
 }

@@ -9,13 +9,13 @@ use Rattle.rules.specs.State.{fresh}
 use Rattle.rules.specs.Answers.{DONE}
 use Rattle.rules.specs.Calls.{Lent, damaged, holding, Outcome, workAfter, load, callAnswer, done, reset}
 use Rattle.rules.specs.declared.answer.CallAnswer.{CallAnswer}
-use Rattle.rules.specs.History.{Call, loading, resetting, Reply, ofCall, workFits, replyTo, leftBy}
-use Rattle.state.specs.Layout.{size, soundCells, encode, decode, lent, cellsAfter}
-use Rattle.state.specs.Sequence.{cellsCalled, Replied, Run, stop, step, Alike, none, same, loads}
+use Rattle.rules.specs.History.{Call, loading, resetting, Reply, ofCall, workFits, replyTo, replyOver, leftBy, leftOver}
+use Rattle.state.specs.Layout.{size, soundCells, encode, decode, lent, lentOver, cellsAfter}
+use Rattle.state.specs.Sequence.{cellsCalled, cellsCalledOver, Replied, Run, stop, step, Alike, none, same, loads}
 
 -- RESET of memory of the right length, whatever it held
 pub reset-always : (cells : List ℕ) → length cells ≡ size → reset (lent cells) ≡ done fresh
-unfolding lent reset
+unfolding lentOver reset
 reset-always cells e = rw (eq-eqb (length cells) size e) (go (soundCells cells))
   where
     go : (good : Bool) → reset (cond good (holding (decode cells)) damaged) ≡ done fresh
@@ -25,7 +25,7 @@ reset-always cells e = rw (eq-eqb (length cells) size e) (go (soundCells cells))
 -- so its reply and its cells are always the same
 reset-replied-same : {cells next : List ℕ} {r : Reply} → length cells ≡ size → Replied cells resetting r next →
     (r ≡ ofCall (callAnswer DONE)) × (next ≡ encode fresh)
-unfolding replyTo cellsCalled leftBy cellsAfter
+unfolding replyOver cellsCalledOver leftOver cellsAfter
 reset-replied-same {cells} e p =
     let is = reset-always cells e in (
       p .reply ∙ ap (λ (o : Outcome CallAnswer). ofCall (o .answer)) is,
@@ -35,11 +35,11 @@ reset-replied-same {cells} e p =
 -- a LOAD with work memory of its length, whatever that holds
 module _ (work other file : List ℕ) (e : workFits work ≡ true) (f : workFits other ≡ true) where
   work-unread : (m : Lent) → replyTo m (loading work file) ≡ replyTo m (loading other file)
-  unfolding replyTo workAfter
+  unfolding replyOver workAfter
   work-unread m = rw (e, f)
 
   work-unused : (m : Lent) → leftBy m (loading work file) ≡ leftBy m (loading other file)
-  unfolding leftBy
+  unfolding leftOver
   work-unused m = ap (λ (fits : Bool). load m fits file .left) (e ∙ sym f)
 
 -- two calls in a row that come to the same from the same cells
@@ -50,7 +50,7 @@ module _
   same-reply = p .reply ∙ ap (λ (l : List ℕ). replyTo (lent l) c) e ∙ reads (lent b) ∙ sym (p′ .reply)
 
   same-cells : next ≡ next′
-  unfolding cellsCalled
+  unfolding cellsCalledOver
   same-cells =
       p .cells ∙ ap (λ (l : List ℕ). cellsCalled l c) e ∙ ap (cellsAfter b) (leaves (lent b)) ∙ sym (p′ .cells)
 

@@ -10,9 +10,9 @@ use lib.ListN.{length}
 use lib.Dec.{eqb, leb}
 use Rattle.rules.specs.Text.{all, isPacked}
 use Rattle.rules.specs.Text.{sameText}
-use Rattle.rules.specs.State.{State, soundSymbol, differentNames, soundWord, sound}
+use Rattle.rules.specs.State.{State, soundSymbol, soundSymbolOver, differentNames, soundWord, sound, soundOver}
 use Rattle.rules.specs.Calls.{wrongLength, damaged, holding, now}
-use Rattle.state.specs.Layout.{size, encode, decode, soundCells, lent, cellsAfter}
+use Rattle.state.specs.Layout.{size, encode, decode, soundCells, soundCellsOver, lent, lentOver, cellsAfter}
 use Rattle.state.specs.Good.{soundValue, Tidy, Good, Holds}
 use Rattle.state.proofs.BoolLaws.{both, first, second}
 use Rattle.state.proofs.ListLaws.{all-weaken}
@@ -36,7 +36,7 @@ text-same (x ∷ l) = both (eqb x x) (sameText l l) (eq-eqb x x refl) (text-same
 -- ---- a sound state is tidy
 
 pub sound-tidy : (s : State) → sound s ≡ true → Tidy s
-unfolding sound soundSymbol soundValue
+unfolding soundOver soundSymbolOver soundValue
 sound-tidy s e =
     let n = length (s .symbols) in
     let few = leb n 256 in
@@ -61,7 +61,7 @@ sound-tidy s e =
     }
 
 pub sound-symbols : (s : State) → sound s ≡ true → all soundSymbol (s .symbols) ≡ true
-unfolding sound
+unfolding soundOver
 sound-symbols s e =
     let n = length (s .symbols) in
     let rest = differentNames (s .symbols) && (eqb (length (s .words)) 4096 && (all (soundWord n) (s .words) && leb (s .next) 4096)) in
@@ -71,12 +71,12 @@ sound-symbols s e =
 
 -- "sound cells are the encoding of what they decode to"
 pub sound-cells : (cells : List ℕ) → soundCells cells ≡ true → cells ≡ encode (decode cells)
-unfolding soundCells
+unfolding soundCellsOver
 sound-cells cells e =
     same-text cells (encode (decode cells)) (first (sameText cells (encode (decode cells))) (sound (decode cells)) e)
 
 pub sound-state : (cells : List ℕ) → soundCells cells ≡ true → sound (decode cells) ≡ true
-unfolding soundCells
+unfolding soundCellsOver
 sound-state cells e = second (sameText cells (encode (decode cells))) (sound (decode cells)) e
 
 pub sound-good : (cells : List ℕ) → soundCells cells ≡ true → Good cells
@@ -84,7 +84,7 @@ sound-good cells e = holds cells (decode cells) (sound-tidy (decode cells) (soun
 
 -- the other way: a test over both
 pub cells-sound : (cells : List ℕ) → cells ≡ encode (decode cells) → sound (decode cells) ≡ true → soundCells cells ≡ true
-unfolding soundCells
+unfolding soundCellsOver
 cells-sound cells e y =
     both (sameText cells (encode (decode cells))) (sound (decode cells))
     (ap (sameText cells) (sym e) ∙ text-same cells)
@@ -93,15 +93,15 @@ cells-sound cells e y =
 -- ---- what is lent
 
 pub lent-wrong : (cells : List ℕ) → length cells ≢ size → lent cells ≡ wrongLength
-unfolding lent
+unfolding lentOver
 lent-wrong cells h = rw (ne-eqb _ _ h)
 
 pub lent-damaged : (cells : List ℕ) → length cells ≡ size → soundCells cells ≡ false → lent cells ≡ damaged
-unfolding lent
+unfolding lentOver
 lent-damaged cells h e = rw (eq-eqb _ _ h, e)
 
 pub lent-holding : (cells : List ℕ) → length cells ≡ size → soundCells cells ≡ true → lent cells ≡ holding (decode cells)
-unfolding lent
+unfolding lentOver
 lent-holding cells h e = rw (eq-eqb _ _ h, e)
 
 -- a sound state's encoding is sound cells, and holds it
@@ -119,7 +119,7 @@ lent-encode s e =
 
 -- cells that are lent as holding a state are its encoding, and it is sound
 lent-held : (cells : List ℕ) (s : State) → lent cells ≡ holding s → (cells ≡ encode s) × (sound s ≡ true)
-unfolding lent
+unfolding lentOver
 lent-held cells s h = go (eqb (length cells) size) (soundCells cells) refl h
   where
     go : (long good : Bool) → soundCells cells ≡ good → cond long (cond good (holding (decode cells)) damaged) wrongLength ≡ holding s → (cells ≡ encode s) × (sound s ≡ true)

@@ -15,3 +15,4 @@ pub mod SequenceLaws
 pub mod LastWeek
 pub mod StepBack
 pub mod CallLaws
+pub mod AcceptedBefore

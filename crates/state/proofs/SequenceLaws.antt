@@ -6,7 +6,7 @@ use mathlib.Core.Logic.{_≢_}
 use mathlib.Core.Path.{_≡_, refl, sym, ap, ap₂, _∙_}
 use Rattle.rules.specs.State.{State, broken, frozen, sound}
 use Rattle.rules.specs.Calls.{Lent, holding, Left, asBefore, now, load, force, base, reset, memory, symbols, undefined, end}
-use Rattle.rules.specs.History.{Call, loading, forcing, basing, resetting, askingHigh, listing, listingUndefined, ending, Reply, ofLoad, ofCall, ofMemory, ofSymbols, ofUndefined, ofEnd, workFits, replyTo, leftBy, stateAfter, called, calledAll}
+use Rattle.rules.specs.History.{Call, loading, forcing, basing, resetting, askingHigh, listing, listingUndefined, ending, Reply, ofLoad, ofCall, ofMemory, ofSymbols, ofUndefined, ofEnd, workFits, replyOver, leftBy, leftOver, stateAfter, called, calledAll}
 use Rattle.rules.specs.declared.answer.LoadAnswer.{LoadAnswer}
 use Rattle.rules.specs.declared.answer.CallAnswer.{CallAnswer}
 use Rattle.rules.specs.declared.answer.MemoryAnswer.{MemoryAnswer}
@@ -18,45 +18,45 @@ use Rattle.rules.proofs.OrderLaws.{broken-until-reset, frozen-until-reset}
 use Rattle.rules.proofs.SoundCalls.{called-sound}
 use Rattle.state.specs.Layout.{lent, cellsAfter}
 use Rattle.state.specs.Promise.{Called, LoadCalled, Ended}
-use Rattle.state.specs.Sequence.{cellsCalled, Replied, Run, stop, step}
+use Rattle.state.specs.Sequence.{cellsCalled, cellsCalledOver, Replied, Run, stop, step}
 use Rattle.state.proofs.LentLaws.{held-encoded, held-sound, lent-encode}
 
 -- ---- each call's own promise is the promise of any call
 
 module _ (cells after : List ℕ) where
   pub load-replied : (work file : List ℕ) (r : LoadAnswer) (left : List ℕ) → LoadCalled (load (lent cells) (workFits work) file) cells work r after left → Replied cells (loading work file) (ofLoad r left) after
-  unfolding replyTo cellsCalled leftBy
+  unfolding replyOver cellsCalledOver leftOver
   load-replied work file r left c =
       record { reply = ap₂ {C = Reply} ofLoad (c .call .answer) (c .work-left); cells = c .call .cells }
 
   pub force-replied : (name : List ℕ) (r : CallAnswer) → Called (force (lent cells) name) cells r after → Replied cells (forcing name) (ofCall r) after
-  unfolding replyTo cellsCalled leftBy
+  unfolding replyOver cellsCalledOver leftOver
   force-replied name r c = record { reply = ap ofCall (c .answer); cells = c .cells }
 
   pub base-replied : (address : ℕ) (r : CallAnswer) → Called (base (lent cells) address) cells r after → Replied cells (basing address) (ofCall r) after
-  unfolding replyTo cellsCalled leftBy
+  unfolding replyOver cellsCalledOver leftOver
   base-replied address r c = record { reply = ap ofCall (c .answer); cells = c .cells }
 
   pub reset-replied : (r : CallAnswer) → Called (reset (lent cells)) cells r after → Replied cells resetting (ofCall r) after
-  unfolding replyTo cellsCalled leftBy
+  unfolding replyOver cellsCalledOver leftOver
   reset-replied r c = record { reply = ap ofCall (c .answer); cells = c .cells }
 
   pub end-replied : (before : List ℕ) (r : EndAnswer) (out : List ℕ) → Ended (end (lent cells) before) cells r after out → Replied cells (ending before) (ofEnd r out) after
-  unfolding replyTo cellsCalled leftBy
+  unfolding replyOver cellsCalledOver leftOver
   end-replied before r out e = record { reply = ap₂ {C = Reply} ofEnd (e .call .answer) (e .output); cells = e .call .cells }
 
 -- the calls that only look
 module _ (cells : List ℕ) where
   pub memory-replied : (r : MemoryAnswer) → r ≡ memory (lent cells) → Replied cells askingHigh (ofMemory r) cells
-  unfolding replyTo cellsCalled leftBy cellsAfter
+  unfolding replyOver cellsCalledOver leftOver cellsAfter
   memory-replied r e = record { reply = ap ofMemory e; cells = refl }
 
   pub symbols-replied : (i : ℕ) (r : SymbolAnswer) → r ≡ symbols (lent cells) i → Replied cells (listing i) (ofSymbols r) cells
-  unfolding replyTo cellsCalled leftBy cellsAfter
+  unfolding replyOver cellsCalledOver leftOver cellsAfter
   symbols-replied i r e = record { reply = ap ofSymbols e; cells = refl }
 
   pub undefined-replied : (i : ℕ) (r : UndefinedAnswer) → r ≡ undefined (lent cells) i → Replied cells (listingUndefined i) (ofUndefined r) cells
-  unfolding replyTo cellsCalled leftBy cellsAfter
+  unfolding replyOver cellsCalledOver leftOver cellsAfter
   undefined-replied i r e = record { reply = ap ofUndefined e; cells = refl }
 
 -- ---- what is lent holds a sound state, and after any call the state that the call's definition gives
@@ -68,7 +68,7 @@ module _ (cells : List ℕ) (s : State) (h : lent cells ≡ holding s) where
   left-holds (now t) y = lent-encode t y
 
   pub holds-called : (c : Call) → lent (cellsCalled cells c) ≡ holding (called s c)
-  unfolding cellsCalled called
+  unfolding cellsCalledOver called
   holds-called c =
       ap (λ (m : Lent). lent (cellsAfter cells (leftBy m c))) h
       ∙ left-holds (leftBy (holding s) c) (called-sound s c (held-sound cells s h))

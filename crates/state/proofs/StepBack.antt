@@ -7,13 +7,13 @@ use mathlib.Core.List.{List}
 use mathlib.Core.Logic.{_≢_}
 use mathlib.Core.Path.{_≡_, refl, sym, ap, subst, _∙_}
 use Rattle.rules.specs.State.{State}
-use Rattle.rules.specs.Calls.{Lent, wrongLength, damaged, holding, asBefore, loadLent, load, force, base, memory, end}
-use Rattle.rules.specs.History.{Call, loading, forcing, basing, resetting, askingHigh, listing, listingUndefined, ending, Reply, workFits, leftBy, called, calledAll}
+use Rattle.rules.specs.Calls.{Lent, wrongLength, damaged, holding, asBefore, loadLentOver, load, loadOver, forceOver, base, memory, end}
+use Rattle.rules.specs.History.{Call, loading, forcing, basing, resetting, askingHigh, listing, listingUndefined, ending, Reply, workFits, leftBy, leftOver, called, calledAll}
 use Rattle.rules.proofs.TestLaws.{Every}
 use Rattle.rules.proofs.BoolLaws.{never}
 use Rattle.rules.proofs.HighLaws.{force-keeps-high, base-keeps-high, end-keeps-high, high-until-reset}
 use Rattle.state.specs.Layout.{lent, cellsAfter}
-use Rattle.state.specs.Sequence.{cellsCalled, Replied, Run, stop, step, NotLower}
+use Rattle.state.specs.Sequence.{cellsCalled, cellsCalledOver, Replied, Run, stop, step, NotLower}
 use Rattle.state.proofs.LentLaws.{held-sound}
 use Rattle.state.proofs.SequenceLaws.{holds-called, holds-run}
 
@@ -24,13 +24,13 @@ data Unheld : Lent → Type 0 where
   spoilt : Unheld damaged
 
 load-leaves : {m : Lent} → Unheld m → (fits : Bool) (file : List ℕ) → load m fits file .left ≡ asBefore
-unfolding load loadLent
+unfolding loadOver loadLentOver
 load-leaves u false file = refl
 load-leaves short true file = refl
 load-leaves spoilt true file = refl
 
 unheld-left : {m : Lent} → Unheld m → (c : Call) → c ≢ resetting → leftBy m c ≡ asBefore
-unfolding leftBy force base end
+unfolding leftOver forceOver base end
 unheld-left u (loading work file) other = load-leaves u (workFits work) file
 unheld-left short (forcing name) other = refl
 unheld-left spoilt (forcing name) other = refl
@@ -44,7 +44,7 @@ unheld-left short (ending out) other = refl
 unheld-left spoilt (ending out) other = refl
 
 unheld-stays : (cells : List ℕ) → Unheld (lent cells) → (c : Call) → c ≢ resetting → cellsCalled cells c ≡ cells
-unfolding cellsCalled cellsAfter
+unfolding cellsCalledOver cellsAfter
 unheld-stays cells u c other = ap (cellsAfter cells) (unheld-left u c other)
 
 unheld-run : {cells last : List ℕ} {cs : List Call} {rs : List Reply} → Run cells cs rs last → Unheld (lent cells) → Every (λ c. c ≢ resetting) cs → last ≡ cells

@@ -4,8 +4,8 @@ use mathlib.Core.Bool.{Bool, cond, not, _&&_}
 use mathlib.Core.List.{List, [], _∷_, _++_, map}
 use lib.ListN.{length, getD, replicate}
 use lib.Dec.{eqb}
-use Rattle.rules.specs.Text.{sameText}
-use Rattle.rules.specs.State.{Symbol, symbol, Word, unplaced, plain, refers, Mark, unmarked, broken, frozen, State, state, sound}
+use Rattle.rules.specs.Text.{sameText, Alphabet, isNameCharacter}
+use Rattle.rules.specs.State.{Symbol, symbol, Word, unplaced, plain, refers, Mark, unmarked, broken, frozen, State, state, soundOver}
 use Rattle.rules.specs.Calls.{Lent, wrongLength, damaged, holding, Left, asBefore, now}
 
 -- ---- the regions: four cells of header (count of symbols, next address, mark, a spare one), then four tables
@@ -115,12 +115,20 @@ decode cells = state (symbolsFrom cells 0) (wordsBelow cells 4096) (getD cells 1
 
 -- ---- what a call is lent, and what it leaves
 
--- the cells are those of the state that they decode to, and that state is sound
-unfoldable pub soundCells : List ℕ → Bool
-soundCells cells = sameText cells (encode (decode cells)) && sound (decode cells)
+module _ (alphabet : Alphabet) where
+  -- the cells are those of the state that they decode to, and that state is sound
+  unfoldable pub soundCellsOver : List ℕ → Bool
+  soundCellsOver cells = sameText cells (encode (decode cells)) && soundOver alphabet (decode cells)
 
-unfoldable pub lent : List ℕ → Lent
-lent cells = cond (eqb (length cells) size) (cond (soundCells cells) (holding (decode cells)) damaged) wrongLength
+  unfoldable pub lentOver : List ℕ → Lent
+  lentOver cells = cond (eqb (length cells) size) (cond (soundCellsOver cells) (holding (decode cells)) damaged) wrongLength
+
+-- by the rules' own alphabet
+abbrev pub soundCells : List ℕ → Bool
+soundCells = soundCellsOver isNameCharacter
+
+abbrev pub lent : List ℕ → Lent
+lent = lentOver isNameCharacter
 
 unfoldable pub cellsAfter : List ℕ → Left → List ℕ
 cellsAfter cells asBefore = cells

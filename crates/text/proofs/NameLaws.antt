@@ -6,39 +6,52 @@ use mathlib.Core.Bool.{true, false}
 use mathlib.Core.List.{List}
 use mathlib.Core.Option.{none, some}
 use mathlib.Core.Path.{_≡_, sym, _∙_}
+use mathlib.Core.Logic.{_≢_}
+use lib.Dec.{eqb}
+use borrow.Author.Tests.{eq-eqb, ne-eqb}
 use lib.ListN.{length, drop, getD}
-use Rattle.rules.specs.Text.{between, all, isLetter, isLetterOrDigit, isName, packName, nameOf}
+use Rattle.rules.specs.Text.{between, all, isLetter, isDigit, isNameCharacter, isName, isNameOver, packName, nameOf, nameOver}
 use Rattle.text.proofs.ScanLaws.{all-step, all-stop, all-end, between-yes, and-false, too-short, too-long}
 
 -- ---- one character
 
 module _ (b : ℕ) where
-  pub letter : isLetter b ≡ true → isLetterOrDigit b ≡ true
+  pub letter : isLetter b ≡ true → isNameCharacter b ≡ true
+  unfolding isNameCharacter
   letter e = simp e
 
-  pub no-letter : isLetter b ≡ false → isLetterOrDigit b ≡ between 48 57 b
-  no-letter e = simp e
+  pub digit : isLetter b ≡ false → isDigit b ≡ true → isNameCharacter b ≡ true
+  unfolding isNameCharacter
+  digit e d = simp (e, d)
+
+  pub dollar : isLetter b ≡ false → isDigit b ≡ false → b ≡ 36 → eqb b 36 ≡ isNameCharacter b
+  unfolding isNameCharacter
+  dollar e d h = simp (e, d, eq-eqb b 36 h)
+
+  pub dot : isLetter b ≡ false → isDigit b ≡ false → b ≢ 36 → eqb b 46 ≡ isNameCharacter b
+  unfolding isNameCharacter
+  dot e d h = simp (e, d, ne-eqb b 36 h)
 
 -- ---- which answer
 
 pub name-short : (f : List ℕ) → length f ≡ 0 → isName f ≡ false
-unfolding isName
+unfolding isNameOver
 name-short f e = too-short f _ e
 
 pub name-long : (f : List ℕ) → 6 < length f → isName f ≡ false
-unfolding isName
+unfolding isNameOver
 name-long f h = too-long f _ h
 
 pub name-first : (f : List ℕ) → isLetter (getD f 0 0) ≡ false → isName f ≡ false
-unfolding isName
+unfolding isNameOver
 name-first f e = simp (e, and-false)
 
 pub no-name : (f : List ℕ) → isName f ≡ false → none ≡ nameOf f
-unfolding nameOf
+unfolding nameOver
 no-name f e = simp e
 
 pub a-name : (f : List ℕ) → isName f ≡ true → some (packName f) ≡ nameOf f
-unfolding nameOf
+unfolding nameOver
 a-name f e = simp e
 
 -- ---- the loop
@@ -49,7 +62,7 @@ pub record Characters (f : List ℕ) (i : ℕ) : Type 0 where
   pub few : length f ≤ 6
   pub to : i ≤ length f
   pub first : isLetter (getD f 0 0) ≡ true
-  pub same : all isLetterOrDigit (drop i f) ≡ all isLetterOrDigit f
+  pub same : all isNameCharacter (drop i f) ≡ all isNameCharacter f
 
 pub characters-start :
     (f : List ℕ) → (length f ≡ 0 → ⊥) → length f ≤ 6 → isLetter (getD f 0 0) ≡ true → Characters f 1
@@ -60,25 +73,25 @@ characters-start f h g e =
       few = g;
       to = any;
       first = e;
-      same = all-step isLetterOrDigit 0 f any (letter (getD f 0 0) e);
+      same = all-step isNameCharacter 0 f any (letter (getD f 0 0) e);
     }
 
 module _ {f : List ℕ} {i : ℕ} (s : Characters f i) where
-  pub characters-bad : i < length f → isLetterOrDigit (getD f i 0) ≡ false → isName f ≡ false
-  unfolding isName
-  characters-bad h b = simp (sym (s .same) ∙ all-stop isLetterOrDigit i f h b, and-false)
+  pub characters-bad : i < length f → isNameCharacter (getD f i 0) ≡ false → isName f ≡ false
+  unfolding isNameOver
+  characters-bad h b = simp (sym (s .same) ∙ all-stop isNameCharacter i f h b, and-false)
 
-  pub characters-step : i < length f → isLetterOrDigit (getD f i 0) ≡ true → Characters f (i + 1)
+  pub characters-step : i < length f → isNameCharacter (getD f i 0) ≡ true → Characters f (i + 1)
   characters-step h b =
       record {
         any = s .any;
         few = s .few;
         to = omega arith;
         first = s .first;
-        same = all-step isLetterOrDigit i f h b ∙ s .same;
+        same = all-step isNameCharacter i f h b ∙ s .same;
       }
 
   pub characters-end : length f ≤ i → isName f ≡ true
-  unfolding isName
+  unfolding isNameOver
   characters-end h =
-      simp (between-yes 1 6 (length f) (s .any) (s .few), s .first, sym (s .same) ∙ all-end isLetterOrDigit i f h)
+      simp (between-yes 1 6 (length f) (s .any) (s .few), s .first, sym (s .same) ∙ all-end isNameCharacter i f h)

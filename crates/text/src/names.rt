@@ -1,7 +1,7 @@
-// Names: one to six characters, A to Z and 0 to 9, the first a letter.
+// Names: one to six characters, A to Z, 0 to 9, $ and the dot, the first a letter.
 use rules::limits::LONGEST_NAME;
 ghost use mathlib.Core.Path.{_≡_};
-ghost use Rattle.rules.specs.Text.{between, isLetter, isLetterOrDigit, isName, packName, nameOf};
+ghost use Rattle.rules.specs.Text.{between, isLetter, isNameCharacter, isName, packName, nameOf};
 ghost use Rattle.text.specs.Values.{nameIn, ByteAt};
 
 pub enum Name {
@@ -22,10 +22,17 @@ fn is_letter(byte: u8) -> bool
     is_between(65, 90, byte)
 }
 
-fn is_letter_or_digit(byte: u8) -> bool
-    ensures { λ r. ⌜ r ≡ isLetterOrDigit byte ⌝ }
+// May it stand behind a name's first letter.
+pub fn is_name_character(byte: u8) -> bool
+    ensures { λ r. ⌜ r ≡ isNameCharacter byte ⌝ }
 {
-    is_letter(byte) || is_between(48, 57, byte)
+    if is_letter(byte) {
+        return true;
+    }
+    if is_between(48, 57, byte) {
+        return true;
+    }
+    byte == b'$' || byte == b'.'
 }
 
 pub fn is_name(field: &[u8]) -> bool
@@ -43,7 +50,7 @@ pub fn is_name(field: &[u8]) -> bool
     }
     let mut i = 1;
     while i < n {
-        if !is_letter_or_digit(field[i]) {
+        if !is_name_character(field[i]) {
             return false;
         }
         i += 1;

@@ -1,6 +1,6 @@
 use mathlib.Core.Path.{refl, sym, ap, _∙_}
 use Rattle.rules.specs.Placing.{mention}
-use Rattle.rules.specs.Calls.{force, stopped}
+use Rattle.rules.specs.Calls.{force, forceOver, stopped}
 use Rattle.state.specs.Layout.{decode}
 use Rattle.text.specs.Values.{nameIn}
 use Rattle.state.proofs.PromiseLaws.{called-stopped}
@@ -27,7 +27,7 @@ same-length : tie.Need-same-length
 same-length c = search needs
 
 returns : tie.Need-returns
-unfolding force
+unfolding forceOver
 returns c = called-stopped _ _ (c .before .before .before .before .before .before .args .state .now) _ (refused (λ l. force l (c .before .before .before .before .before .before .args .name .now)) stopped refl refl (c .before .before .before .before .before .before .args .state .now) (c .before .before .refusal .result) (c .before .before .refusal .ensures) (c .before .if1 .taken)) (c .answer .ensures)
 
 shut-by-requires : tie.Need-shut-by-requires

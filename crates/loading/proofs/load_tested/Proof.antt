@@ -1,6 +1,6 @@
 use native.Mathlib.Omega.{arith}
 use mathlib.Core.Path.{refl}
-use Rattle.rules.specs.Calls.{loadLent, loadStopped}
+use Rattle.rules.specs.Calls.{loadLent, loadLentOver, loadStopped}
 use Rattle.state.specs.Layout.{decode}
 use Rattle.soundness.proofs.RefusalLaws.{refused}
 use Rattle.state.proofs.PromiseLaws.{called-stopped}
@@ -25,7 +25,7 @@ same-length : tie.Need-same-length
 same-length c = search needs
 
 returns : tie.Need-returns
-unfolding loadLent
+unfolding loadLentOver
 returns c = called-stopped _ _ (c .before .before .before .before .before .before .before .args .state .now) _ (refused (λ l. loadLent l (c .before .before .before .before .before .before .before .args .file .now)) loadStopped refl refl (c .before .before .before .before .before .before .before .args .state .now) (c .before .before .refusal .result) (c .before .before .refusal .ensures) (c .before .if1 .taken)) (c .answer .ensures)
 
 shut-by-requires : tie.Need-shut-by-requires

@@ -1,6 +1,6 @@
 -- `line::fields::read_field` meets its contract: by the kind.
 -- Assumes nothing.
-use Rattle.rules.specs.Line.{readField}
+use Rattle.rules.specs.Line.{readFieldOver}
 use Rattle.line.specs.Fitting.{kindOf, asHeld}
 use Rattle.line.proofs.KindLaws.{marker-letter}
 use borrow.Author.Needs.{needs}
@@ -29,7 +29,7 @@ marker-field-requires : tie.Need-marker-field-requires
 marker-field-requires c κs = search needs
 
 returns : tie.Need-returns
-unfolding kindOf asHeld readField
+unfolding kindOf asHeld readFieldOver
 returns c = rw (c .match .keys1)
 
 returns-2 : tie.Need-returns-2

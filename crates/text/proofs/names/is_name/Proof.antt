@@ -34,18 +34,18 @@ loop-holds c =
     characters-start _ (c .before .before .before .before .if1 .left) (c .before .before .before .if2 .left)
     (sym (c .before .is-letter .ensures) ∙ not-false _ (c .if3 .left))
 
-shared-slice-read-is-letter-or-digit :
-    tie.Need-shared-slice-read-is-letter-or-digit Inv-loop μ-loop
-shared-slice-read-is-letter-or-digit c = search needs
+shared-slice-read-is-name-character :
+    tie.Need-shared-slice-read-is-name-character Inv-loop μ-loop
+shared-slice-read-is-name-character c = search needs
 
-is-letter-or-digit-requires : tie.Need-is-letter-or-digit-requires Inv-loop μ-loop
-is-letter-or-digit-requires c κs = search needs
+is-name-character-requires : tie.Need-is-name-character-requires Inv-loop μ-loop
+is-name-character-requires c κs = search needs
 
 returns-4 : tie.Need-returns-4 Inv-loop μ-loop
 returns-4 c =
     sym
     (characters-bad (c .before .before .before .before .loop .inv) (search needs)
-    (sym (c .before .is-letter-or-digit .ensures) ∙ not-true _ (c .if4 .taken)))
+    (sym (c .before .is-name-character .ensures) ∙ not-true _ (c .if4 .taken)))
 
 add-i : tie.Need-add-i Inv-loop μ-loop
 add-i c = search needs
@@ -56,7 +56,7 @@ loop-less c = search needs
 loop-again : tie.Need-loop-again Inv-loop μ-loop
 loop-again c =
     characters-step (c .before .before .before .before .loop .inv) (search needs)
-    (sym (c .before .is-letter-or-digit .ensures) ∙ not-false _ (c .if4 .left))
+    (sym (c .before .is-name-character .ensures) ∙ not-false _ (c .if4 .left))
 
 returns-5 : tie.Need-returns-5 Inv-loop μ-loop
 returns-5 c = sym (characters-end (c .before .loop .inv) (search needs))
@@ -73,8 +73,8 @@ is-name-spec =
     is-letter-requires
     returns-3
     loop-holds
-    shared-slice-read-is-letter-or-digit
-    is-letter-or-digit-requires
+    shared-slice-read-is-name-character
+    is-name-character-requires
     returns-4
     add-i
     loop-less
