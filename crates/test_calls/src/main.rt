@@ -321,7 +321,7 @@ fn names(state: &mut [u64; STATE_CELLS]) {
     force(state, b"SEVENCH");
     force(state, b"1A");
     force(state, b"a");
-    force(state, b"A$B");
+    force(state, b"A-B");
     force(state, b"A B");
     force(state, b"SQ");
     force(state, b"SQ");
@@ -347,6 +347,28 @@ fn bases(state: &mut [u64; STATE_CELLS]) {
     memory(state);
     base(state, 128);
     memory(state);
+    end(state, 5);
+}
+
+// Request 4/14. The last but one of the names is a character too long, and the last is there already.
+fn dollar_and_dot(state: &mut [u64; STATE_CELLS]) {
+    title(b"names with dollar and dot");
+    make_fresh(state);
+    force(state, b"A$B");
+    force(state, b"IO.1");
+    force(state, b"A.....");
+    force(state, b"$A");
+    force(state, b".A");
+    force(state, b"A$B.C1D");
+    force(state, b"A$B");
+    symbol(state, 0);
+    symbol(state, 1);
+    symbol(state, 2);
+    symbol(state, 3);
+    undefined(state, 0);
+    undefined(state, 1);
+    undefined(state, 2);
+    undefined(state, 3);
     end(state, 5);
 }
 
@@ -501,6 +523,37 @@ fn each_clause() {
     damaged(b"a placed word unplaced, its text left", 4612, 0);
 }
 
+// A sound state in which SQ has another name: how that is listed, then every call.
+fn renamed(name: u64) {
+    let mut state = [0u64; STATE_CELLS];
+    prepare(&mut state);
+    set(&mut state, 5, name);
+    symbol(&state, 1);
+    undefined(&state, 0);
+    all_calls(&mut state);
+}
+
+// Request 4/14: what soundness takes for a name.
+fn stored_names() {
+    title(b"stored: A$B, IO.1, A....., A$, Z., A$B.C1, A$$$$$");
+    renamed(0x4124_4200_0000);
+    renamed(0x494f_2e31_0000);
+    renamed(0x412e_2e2e_2e2e);
+    renamed(0x4124_0000_0000);
+    renamed(0x5a2e_0000_0000);
+    renamed(0x4124_422e_4331);
+    renamed(0x4124_2424_2424);
+    damaged(b"stored: $A", 5, 0x2441_0000_0000);
+    damaged(b"stored: .A", 5, 0x2e41_0000_0000);
+    damaged(b"stored: A$B.C1D", 5, 0x41_2442_2e43_3144);
+    damaged(b"stored: A, 0, dollar", 5, 0x4100_2400_0000);
+    damaged(b"stored: A, 0, dot", 5, 0x4100_2e00_0000);
+    damaged(b"stored: A#B", 5, 0x4123_4200_0000);
+    damaged(b"stored: AB%", 5, 0x4142_2500_0000);
+    damaged(b"stored: ABC-E", 5, 0x4142_432d_4500);
+    damaged(b"stored: ABCDE/", 5, 0x4142_4344_452f);
+}
+
 fn call_in_front(which: u64, cells: &mut [u64], size: usize, out: &mut [u8]) -> u64 {
     if cells.len() < size {
         return call(which, cells, out);
@@ -554,11 +607,13 @@ fn main() {
     fresh_state(&mut state);
     names(&mut state);
     bases(&mut state);
+    dollar_and_dot(&mut state);
     full_table(&mut state);
     prepared(&mut state);
     broken(&mut state);
     limits(&mut state);
     highs(&mut state);
     each_clause();
+    stored_names();
     lengths();
 }
