@@ -82,8 +82,8 @@ lnk100_call_answer lnk100_reset(uint64_t *state, size_t state_len);
  * Work memory of its fixed length is zero afterwards, refused or not; of another length it is untouched. The file is not kept. */
 lnk100_load_answer lnk100_load(uint64_t *state, size_t state_len, uint64_t *work, size_t work_len, const uint8_t *file, size_t file_len);
 
-/* Puts a name, 1 to 6 of A to Z and 0 to 9 and the first a letter, into the table as an undefined symbol, so that a library's module
- * is taken for it. DONE without change where the table has the name, defined or not.
+/* Puts a name, 1 to 6 of A to Z, 0 to 9, `$` and `.` and the first a letter, into the table as an undefined symbol, so that a library's
+ * module is taken for it. DONE without change where the table has the name, defined or not.
  * Refused by 1 to 4, then 15, then 14; then the state is as it was. */
 lnk100_call_answer lnk100_force(uint64_t *state, size_t state_len, const uint8_t *name, size_t name_len);
 

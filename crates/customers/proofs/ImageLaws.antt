@@ -1,7 +1,7 @@
 -- END: what it writes, what it keeps, and that it may be repeated.
 use Prim.Native.Nat.{ℕ, zero, suc, _+_, _*_, _≤_}
 use native.Mathlib.Omega.{arith}
-use mathlib.Core.Bool.{Bool, true, false, cond}
+use mathlib.Core.Bool.{true, false}
 use mathlib.Core.List.{List, [], _∷_, _++_}
 use mathlib.Core.Path.{_≡_, refl, sym, ap, ap₂, _∙_}
 use lib.ListN.{length, getD, take, drop}
@@ -10,7 +10,7 @@ use lib.Dec.{ltb}
 use borrow.Author.Tests.{ltb-false}
 use Rattle.rules.specs.State.{State, Mark, frozen, marked, placedWords, sound}
 use Rattle.rules.specs.Image.{imageOf, endRecord}
-use Rattle.rules.specs.Calls.{Lent, wrongLength, damaged, holding, Left, now, Outcome, EndOutcome, endAnswer, endStopped, endDone, overwritten, isBroken, endState, end}
+use Rattle.rules.specs.Calls.{Lent, wrongLength, damaged, holding, Left, now, EndOutcome, endAnswer, endDone, overwritten, isBroken, endState, end}
 use Rattle.rules.specs.History.{ending, leftOver, stateAfter, called}
 use Rattle.rules.specs.declared.answer.EndAnswer.{EndAnswer}
 use Rattle.rules.proofs.BoolLaws.{cond-cases}
@@ -18,7 +18,7 @@ use Rattle.rules.proofs.ImageLaws.{image-length}
 use Rattle.rules.proofs.OrderLaws.{end-done}
 use Rattle.rules.proofs.SoundCalls.{called-sound}
 use Rattle.state.specs.Layout.{lent, cellsAfter}
-use Rattle.state.specs.Promise.{Called, Ended}
+use Rattle.state.specs.Promise.{Ended}
 use Rattle.state.proofs.LentLaws.{held-sound, lent-encode}
 use Rattle.customers.specs.Words.{SameFrom, EndKept, SameEnds}
 use Rattle.customers.proofs.LentBefore.{same-held}

@@ -16,7 +16,7 @@ use Rattle.rules.specs.State.{State, state, unmarked, noWords, placedWords}
 use Rattle.rules.specs.Lookup.{nameAt}
 use Rattle.rules.specs.Load.{progress, walking, searched, walkFrom, takenIn, sectionsIn}
 use Rattle.rules.specs.Image.{imageOf}
-use Rattle.rules.specs.Calls.{holding, workAfter, loadAnswer, loadOver, callAnswer, endAnswer, symbolAt}
+use Rattle.rules.specs.Calls.{holding, workAfter, loadAnswer, loadOver, callAnswer, symbolAt}
 use Rattle.rules.specs.Demand.{LeastSufficient}
 use Rattle.rules.specs.History.{resetting, loading, ending, ofCall, ofLoad, ofEnd, workFits}
 use Rattle.rules.specs.declared.line.Fault.{Fault}

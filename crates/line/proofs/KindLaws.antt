@@ -1,14 +1,12 @@
 -- A field against its kind: what the readers of numbers, names and markers answer, as the rules have it.
 -- Assumes nothing.
 use Prim.Native.Nat.{ℕ, _%_, _≤_, _<_}
-use native.Mathlib.Omega.{arith}
 use mathlib.Core.Bool.{Bool, true, false}
 use mathlib.Core.List.{List}
-use mathlib.Core.Option.{Option, none, some}
-use mathlib.Core.Path.{_≡_, refl, sym, ap, _∙_}
+use mathlib.Core.Path.{_≡_, sym, ap, _∙_}
 use lib.Dec.{eqb}
 use borrow.Author.Tests.{ne-eqb}
-use Rattle.rules.specs.Text.{between, numberOf, nameOf}
+use Rattle.rules.specs.Text.{numberOf, nameOf}
 use Rattle.rules.specs.Line.{value, wrong, held, inBounds, readField, readFieldOver, markerOf, isOne}
 use Rattle.rules.specs.Text.{sameText}
 use Rattle.rules.specs.declared.line.FaultKind.{FaultKind}

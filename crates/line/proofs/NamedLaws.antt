@@ -8,7 +8,7 @@ use mathlib.Core.Option.{Option, some}
 use mathlib.Core.Path.{_≡_, refl, sym, ap, subst, _∙_}
 use lib.ListN.{length}
 use Rattle.rules.specs.Text.{Field, fieldsFrom, fieldsOf, numberOf, nameOf}
-use Rattle.rules.specs.Line.{number, value, readField, said, readAs, readAsOver, recordShape, external, absoluteEntry, relocatedEntry, entry, isOne, textAt, entryShape}
+use Rattle.rules.specs.Line.{number, value, readField, said, readAs, readAsOver, recordShape, external, entry, isOne, textAt, entryShape}
 use Rattle.rules.specs.declared.line.FaultKind.the-variants.{BadNumber, BadType}
 use Rattle.rules.specs.declared.line.Kind.{Kind}
 use Rattle.rules.specs.declared.line.Kind.the-variants.{Number, Name}

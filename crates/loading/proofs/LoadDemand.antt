@@ -3,7 +3,7 @@ use Prim.Native.Nat.{ℕ, _+_, _≤_}
 use native.Mathlib.Omega.{arith}
 use mathlib.Core.Bool.{true}
 use mathlib.Core.List.{List}
-use mathlib.Core.Path.{_≡_, refl, sym, ap, ap₂, _∙_}
+use mathlib.Core.Path.{_≡_, sym, ap, ap₂, _∙_}
 use Rattle.rules.specs.Reading.{itemsOf}
 use Rattle.rules.specs.State.{State}
 use Rattle.rules.specs.Load.{walkFrom, takenIn, sectionsIn, progress, walking}

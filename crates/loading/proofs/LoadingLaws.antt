@@ -1,22 +1,20 @@
 -- Each way that LOAD can end.
 use Prim.Native.Nat.{ℕ, _≤_, _<_}
-use mathlib.Core.Bool.{Bool, true, false, cond, not}
 use native.Mathlib.Omega.{arith}
 use mathlib.Core.List.{List, _++_, append-nil}
 use mathlib.Core.Logic.{_≢_}
 use mathlib.Core.Path.{_≡_, refl, sym, ap, subst, _∙_}
 use lib.ListN.{length, drop, replicate, drop-of-length-le}
-use lib.Dec.{eqb, ltb}
+use lib.Dec.{eqb}
 use borrow.Author.Tests.{eq-eqb, ne-eqb, lt-ltb, le-ltb}
 use Rattle.rules.specs.Reading.{Item, readingOf, itemsOf}
 use Rattle.rules.specs.State.{State, marked, broken}
-use Rattle.rules.specs.Load.{Walk, walking, Progress, progress, walkItems, Loaded, walked, walkFrom, loadRead, loadReadOver, loadFile, loadFileOver}
-use Rattle.rules.specs.Calls.{Lent, holding, Outcome, loadAnswer, loadStopped, loadOutcome, loadStateOver, loadLent, loadLentOver, load, loadOver, shutBy, workAfter}
+use Rattle.rules.specs.Load.{walking, Progress, progress, walkItems, Loaded, walked, walkFrom, loadRead, loadReadOver, loadFile, loadFileOver}
+use Rattle.rules.specs.Calls.{holding, Outcome, loadAnswer, loadStopped, loadOutcome, loadStateOver, loadLent, loadLentOver, load, loadOver, shutBy, workAfter}
 use Rattle.rules.specs.declared.answer.LoadAnswer.{LoadAnswer}
-use Rattle.rules.specs.declared.reading.Reading.{Reading}
 use Rattle.rules.specs.declared.reading.Reading.the-variants.{Complete, Stopped}
 use Rattle.state.specs.Layout.{lent, encode, decode, cellsAfter}
-use Rattle.state.specs.Good.{Good, Holds}
+use Rattle.state.specs.Good.{Holds}
 use Rattle.state.proofs.LentLaws.{held-cells}
 use Rattle.state.specs.Promise.{Called}
 use Rattle.state.proofs.PromiseLaws.{called-stopped}

@@ -18,7 +18,8 @@ use Rattle.rules.specs.declared.reading.Reading.the-variants.{Complete, 
 use Rattle.rules.proofs.BoolLaws.{or-cases}
 use Rattle.rules.proofs.FirstFault.{never-stopped}
 use Rattle.rules.proofs.AgreeLaws.{Agree, name-agrees, file-agrees}
-use Rattle.rules.proofs.AlphabetLaws.{Within, FileGrows, unless-other, file-grows, load-same, load-grows, force-same, force-grows, sound-grows}
+use Rattle.rules.proofs.AlphabetLaws.{Within, FileGrows, file-grows}
+use Rattle.rules.proofs.AlphabetCalls.{unless-other, loadNumber, callNumber, load-same, load-grows, force-same, force-grows, sound-grows}
 
 -- document 01's alphabet is within the rules' own
 pub letters-within : Within isLetterOrDigit isNameCharacter
@@ -40,12 +41,12 @@ file-but-19 file h = go (file-grows letters-within file)
 -- what LOAD answers and leaves, whatever it is lent, unless it answered 19
 pub load-but-19 : (m : Lent) (fits : Bool) (file : List ℕ) → loadOver isLetterOrDigit m fits file .answer .number ≢ SYMBOL →
     load m fits file ≡ loadOver isLetterOrDigit m fits file
-load-but-19 m fits file h = unless-other (load-grows letters-within m fits file) h
+load-but-19 m fits file h = unless-other loadNumber (load-grows letters-within m fits file) h
 
 -- what FORCE answers and leaves, unless it answered 15
 pub force-but-15 : (m : Lent) (name : List ℕ) → forceOver isLetterOrDigit m name .answer .number ≢ NAME →
     force m name ≡ forceOver isLetterOrDigit m name
-force-but-15 m name h = unless-other (force-grows letters-within m name) h
+force-but-15 m name h = unless-other callNumber (force-grows letters-within m name) h
 
 -- ---- nor anything where neither of the two characters stands, refused or not
 

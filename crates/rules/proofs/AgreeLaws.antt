@@ -1,14 +1,14 @@
 -- Two alphabets that agree on the bytes of a file read it alike, whatever it holds.
 use Prim.Native.Nat.{ℕ, _+_}
-use mathlib.Core.Bool.{Bool, true, false, cond, not, _&&_}
+use mathlib.Core.Bool.{Bool, true, cond, _&&_}
 use mathlib.Core.List.{List, [], _∷_, map}
 use mathlib.Core.Option.{Option, none, some}
 use mathlib.Core.Path.{_≡_, refl, ap, ap₂, _∙_}
 use lib.ListN.{length, getD}
 use lib.Dec.{eqb}
-use Rattle.rules.specs.Text.{all, between, isLetter, LF, CR, space, isLineEnd, widenLine, cutLines, withoutEnd, linesOf, Field, startsField, widenField, addToFields, fieldsFrom, fieldsOf, Alphabet, packName, isNameOver, nameOver}
-use Rattle.rules.specs.Line.{Shape, held, inFront, said, readFieldOver, fitOver, readAsOver, shapeFor, sayFieldsOver, lineOver, testBytes, lineAnswerOver}
-use Rattle.rules.specs.Reading.{ReadSoFar, unread, stepped, ifComplete, stepOf, readLineOver, readLinesOver, ended, readingOver, itemsOver, Item}
+use Rattle.rules.specs.Text.{all, between, isLetter, LF, space, isLineEnd, widenLine, cutLines, withoutEnd, linesOf, Field, startsField, widenField, addToFields, fieldsFrom, fieldsOf, Alphabet, packName, isNameOver, nameOver}
+use Rattle.rules.specs.Line.{Shape, held, inFront, said, readFieldOver, fitOver, readAsOver, sayFieldsOver, lineOver, testBytes, lineAnswerOver}
+use Rattle.rules.specs.Reading.{ReadSoFar, unread, stepped, ifComplete, stepOf, readLineOver, readLinesOver, ended, readingOver, itemsOver}
 use Rattle.rules.specs.declared.line.FaultKind.the-variants.{BadName}
 use Rattle.rules.specs.declared.line.Kind.{Kind}
 use Rattle.rules.specs.declared.line.Kind.the-variants.{Number, Name, Anything, Marker}

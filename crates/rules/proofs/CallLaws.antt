@@ -1,19 +1,19 @@
 -- FORCE, BASE and END: a refusal changes nothing, and none of them places or moves a word.
-use Prim.Native.Nat.{ℕ, zero, suc, _+_, _≤_}
+use Prim.Native.Nat.{ℕ, zero, suc}
 use borrow.Author.Tests.{not-false}
 use native.Mathlib.Omega.{arith}
-use mathlib.Core.Bool.{Bool, true, false, cond, not, _&&_, _||_}
-use mathlib.Core.List.{List, [], _∷_}
+use mathlib.Core.Bool.{Bool, true, false, cond, not, _||_}
+use mathlib.Core.List.{List}
 use mathlib.Core.Logic.{_⊎_, inl, inr}
-use mathlib.Core.Path.{_≡_, refl, sym, ap, _∙_}
+use mathlib.Core.Path.{_≡_, refl}
 use lib.ListN.{length, replicate, length-replicate}
 use lib.Dec.{eqb, ltb, leb}
-use Rattle.rules.specs.Text.{all, isName, packName}
-use Rattle.rules.specs.State.{State, state, Mark, unmarked, broken, frozen, Word, unplaced, fresh, noWords, placedWords, isSymbol}
+use Rattle.rules.specs.Text.{isName, packName}
+use Rattle.rules.specs.State.{State, state, Mark, unmarked, broken, frozen, unplaced, fresh, noWords, placedWords, isSymbol}
 use Rattle.rules.specs.Placing.{mention}
 use Rattle.rules.specs.Image.{imageOf}
 use Rattle.rules.specs.declared.answer.CallAnswer.{CallAnswer}
-use Rattle.rules.specs.Calls.{Left, asBefore, now, holding, shutBy, Outcome, stopped, done, withSymbols, forceStateOver, force, forceOver, baseState, base, reset, EndOutcome, endStopped, endDone, isBroken, endState, end}
+use Rattle.rules.specs.Calls.{asBefore, holding, shutBy, Outcome, stopped, done, withSymbols, forceStateOver, force, forceOver, baseState, base, EndOutcome, endStopped, endDone, isBroken, endState, end}
 use Rattle.rules.specs.Answers.{FROZEN}
 use Rattle.rules.specs.History.{forcing, basing, ending, canAnswer, stateAfter}
 use Rattle.rules.proofs.BoolLaws.{cond-cases}

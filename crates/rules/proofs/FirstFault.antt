@@ -1,13 +1,13 @@
 -- "the earliest line with 6, 7 or 8 decides", and "A file ending too soon is at the last line number plus one."
 use Prim.Native.Nat.{ℕ, _+_}
 use native.Mathlib.Omega.{arith}
-use mathlib.Core.Bool.{Bool, true, false, cond, not, _&&_, _||_}
+use mathlib.Core.Bool.{Bool, true, false, not, _&&_, _||_}
 use mathlib.Core.List.{List, [], _∷_, _++_}
 use mathlib.Core.Path.{_≡_, refl, sym, ap, subst, _∙_}
 use lib.ListN.{length}
 use Rattle.rules.specs.Text.{linesOf, Alphabet, isNameCharacter}
 use Rattle.rules.specs.Answers.{PLACE}
-use Rattle.rules.specs.Reading.{stepAt, stepOver, Module, moduleAt, ReadSoFar, readSoFar, unread, moduleDone, stepped, ifComplete, readLine, readLineOver, readLines, readLinesOver, isHeader, atEnd, readingOf, readingOver}
+use Rattle.rules.specs.Reading.{stepAt, stepOver, Module, moduleAt, ReadSoFar, unread, moduleDone, stepped, ifComplete, readLine, readLineOver, readLines, readLinesOver, isHeader, atEnd, readingOf, readingOver}
 use Rattle.rules.specs.declared.reading.Mode.{Mode}
 use Rattle.rules.specs.declared.reading.Step.{Step}
 use Rattle.rules.specs.declared.reading.Step.the-variants.{Stop, Next, Add, CloseModule, CloseSection}

@@ -1,24 +1,23 @@
 -- "Placed words always equal the sum of the CODE counts of all modules placed since the reset."
-use Prim.Native.Nat.{ℕ, zero, suc, _+_, _<_, _≤_}
-use native.Mathlib.Nat.{zero-add}
+use Prim.Native.Nat.{ℕ, zero, suc, _+_, _<_}
 use native.Mathlib.Omega.{arith}
-use mathlib.Core.Bool.{Bool, true, false, cond, not, _&&_, _||_}
+use mathlib.Core.Bool.{Bool, true, false, cond, not, _&&_}
 use mathlib.Core.List.{List, [], _∷_, _++_}
-use mathlib.Core.Option.{Option, none, some}
-use mathlib.Core.Path.{_≡_, refl, sym, ap, _∙_, subst}
+use mathlib.Core.Option.{some}
+use mathlib.Core.Path.{_≡_, refl, sym, ap, _∙_}
 use lib.ListN.{length, getElem?}
-use lib.Dec.{eqb, ltb, leb}
+use lib.Dec.{eqb}
 use borrow.Author.Tests.{ne-eqb, eq-eqb}
 use Rattle.rules.specs.Text.{all, between}
 use Rattle.rules.specs.Reading.{Module, Item, free, section, itemsOf}
-use Rattle.rules.specs.State.{State, Word, fresh, broken, marked, placedWords}
+use Rattle.rules.specs.State.{State, fresh, placedWords}
 use Rattle.rules.specs.Placing.{codeCount, placed, twice}
 use Rattle.rules.specs.Search.{ModuleSet, noModules, withModule}
 use Rattle.rules.specs.Load.{Walk, refusal, walk, walking, accepted, place, takes, searched, sectionNames, testSection, Progress, progress, walkItem, walkItems}
-use Rattle.rules.specs.Calls.{holding, load, loadOver, reset, asBefore, now}
+use Rattle.rules.specs.Calls.{holding, load, loadOver, reset}
 use Rattle.rules.specs.History.{Call, loading, forcing, basing, resetting, askingHigh, listing, listingUndefined, ending, workFits, leftOver, stateAfter, called, calledAll, chosen, placedBy, placedFrom, codeCounts, countPlaced, countAfter, countSince}
 use Rattle.rules.proofs.TestLaws.{Every, every-found, between-low}
-use Rattle.rules.proofs.BoolLaws.{cond-cases, never, never-none}
+use Rattle.rules.proofs.BoolLaws.{cond-cases, never-none}
 use Rattle.rules.proofs.SearchLaws.{search-keeps}
 use Rattle.rules.proofs.ReadingLaws.{ModuleSound, ItemSound, items-sound}
 use Rattle.rules.proofs.AnswerLaws.{right-fault, file-fault-low}

@@ -11,7 +11,7 @@ use lib.Dec.{eqb, leb, ltb}
 use borrow.Author.Tests.{lt-ltb, le-ltb, le-leb, lt-leb, ne-eqb}
 use Rattle.rules.specs.Limits.{longestFile, mostSymbols, largestBase}
 use Rattle.rules.specs.Text.{isName, packName, between}
-use Rattle.rules.specs.Answers.{DONE, BUFFER, DAMAGED, RESET, FROZEN, TOO-LONG, RANGE, TABLE, NAME, OUT, isLineFault, isFileFault}
+use Rattle.rules.specs.Answers.{BUFFER, DAMAGED, RESET, FROZEN, TOO-LONG, RANGE, TABLE, NAME, OUT, isLineFault, isFileFault}
 use Rattle.rules.specs.State.{Symbol, State, state, Mark, unmarked, broken, frozen, isSymbol, undefinedOnly}
 use Rattle.rules.specs.Placing.{mention}
 use Rattle.rules.specs.Load.{loadFile}

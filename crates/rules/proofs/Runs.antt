@@ -1,13 +1,13 @@
 -- Document 01, "Runs to check, whole": the runs marked P, all rows of one table, under one claim that antt computes.
-use Prim.Native.Nat.{ℕ, suc, _+_, _-_, _*_, _<_}
+use Prim.Native.Nat.{ℕ, _+_, _-_, _*_, _<_}
 use native.Mathlib.Omega.{arith}
 use Prim.Native.String.{String}
-use mathlib.Core.Bool.{Bool, true, false, cond, not, _&&_, _||_, false≢true}
+use mathlib.Core.Bool.{Bool, true, false, cond, not, _&&_, false≢true}
 use mathlib.Core.List.{List, [], _∷_, _++_}
 use mathlib.Core.Option.{Option, none, some}
 use mathlib.Core.Path.{_≡_, refl, sym, ap, _∙_}
-use lib.ListN.{length, getD, replicate}
-use lib.Dec.{eqb, leb, ltb}
+use lib.ListN.{length, replicate}
+use lib.Dec.{eqb, ltb}
 use Rattle.rules.specs.Text as Text
 use Rattle.rules.specs.Line as Line
 use Rattle.rules.specs.Faults as Faults
@@ -19,7 +19,7 @@ use Rattle.rules.specs.Load as Load
 use Rattle.rules.specs.Image as Image
 use Rattle.rules.specs.Calls as Calls
 use Rattle.rules.specs.Text.{bytes, sameText, numberOf, packName}
-use Rattle.rules.specs.State.{Symbol, symbol, Word, unplaced, plain, refers, Mark, unmarked, broken, frozen, fresh, undefinedOnly}
+use Rattle.rules.specs.State.{Symbol, Word, unplaced, plain, refers, Mark, unmarked, broken, frozen, fresh, undefinedOnly}
 use Rattle.rules.specs.Reading.{Module, Item, free, section, itemsOf}
 use Rattle.rules.specs.Search.{ModuleSet, noModules, Sweep, round}
 use Rattle.rules.specs.Demand.{Sufficient, Contains, SameSet, LeastSufficient, allModules, isEntry, isExternal, someFrom}

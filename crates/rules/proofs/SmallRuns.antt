@@ -35,8 +35,6 @@ use Rattle.rules.specs.declared.line.FaultKind.the-variants.{IllegalByte
 use Rattle.rules.specs.declared.line.Fault.{Fault}
 use Rattle.rules.specs.declared.line.Relocation.{Relocation}
 use Rattle.rules.specs.declared.line.Relocation.the-variants.{Plain, External, Unread}
-use Rattle.rules.specs.declared.line.CodeWord.{CodeWord}
-use Rattle.rules.specs.declared.line.Entry.{Entry}
 use Rattle.rules.specs.declared.line.Header.the-variants.{CodeBlock, EndBlock, TitleBlock, EntryBlock, ExternalBlock, LibraryStart, LibraryEnd, DataBlock, InitBlock, ParameterBlock}
 use Rattle.rules.specs.declared.line.Expected.{Expected}
 use Rattle.rules.specs.declared.line.Expected.the-variants.{AnyHeader, OpeningTitle, ClosingTitle, CodeRecord, EntryRecord, ExternalRecord, DataRecord, InitRecord, ParameterRecord, SubRecord}
@@ -46,10 +44,6 @@ use Rattle.rules.specs.declared.reading.Reading.{Reading}
 use Rattle.rules.specs.declared.reading.Reading.the-variants.{Complete, Stopped}
 use Rattle.rules.specs.declared.answer.LoadAnswer.{LoadAnswer}
 use Rattle.rules.specs.declared.answer.CallAnswer.{CallAnswer}
-use Rattle.rules.specs.declared.answer.MemoryAnswer.{MemoryAnswer}
-use Rattle.rules.specs.declared.answer.SymbolAnswer.{SymbolAnswer}
-use Rattle.rules.specs.declared.answer.UndefinedAnswer.{UndefinedAnswer}
-use Rattle.rules.specs.declared.answer.EndAnswer.{EndAnswer}
 
 -- ---- what the rows are written with
 

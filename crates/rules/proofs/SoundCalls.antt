@@ -1,19 +1,19 @@
 -- Every call takes a sound state to a sound state.
-use Prim.Native.Nat.{ℕ, zero, suc, _+_, _<_, _≤_}
+use Prim.Native.Nat.{ℕ, zero, suc, _+_, _≤_}
 use native.Mathlib.Omega.{arith}
-use mathlib.Core.Bool.{Bool, true, false, cond, not, _&&_, _||_}
+use mathlib.Core.Bool.{Bool, true, false, cond}
 use mathlib.Core.List.{List, [], _∷_}
-use mathlib.Core.Path.{_≡_, refl, sym, ap, _∙_}
-use lib.ListN.{length, replicate, length-replicate}
-use lib.Dec.{eqb, ltb, leb}
+use mathlib.Core.Path.{_≡_, refl}
+use lib.ListN.{length, replicate}
+use lib.Dec.{eqb}
 use borrow.Author.Tests.{ltb-false, leb-false, eqb-true}
-use Rattle.rules.specs.Text.{all, isName, packName, isPacked}
+use Rattle.rules.specs.Text.{all, packName}
 use Rattle.rules.specs.Reading.{Module, Item, free, section, itemsOf}
-use Rattle.rules.specs.State.{Symbol, nameIs, Mark, State, state, Word, unplaced, fresh, noWords, marked, broken, frozen, soundWord, soundSymbol, differentNames, sound}
+use Rattle.rules.specs.State.{Symbol, nameIs, Mark, State, state, unplaced, fresh, noWords, marked, broken, frozen, soundWord, differentNames, sound}
 use Rattle.rules.specs.Placing.{mention, placingFault, placed}
 use Rattle.rules.specs.Search.{ModuleSet}
-use Rattle.rules.specs.Load.{Walk, refusal, walk, walking, accepted, tryPlace, place, takes, searched, testSection, Progress, progress, walkItem, walkItems, walkFrom}
-use Rattle.rules.specs.Calls.{Left, asBefore, now, holding, load, loadOver, force, base, reset, end, withSymbols}
+use Rattle.rules.specs.Load.{Walk, refusal, walk, walking, accepted, tryPlace, place, takes, searched, testSection, Progress, progress, walkItem, walkItems}
+use Rattle.rules.specs.Calls.{holding, load, loadOver, force, base, reset, end}
 use Rattle.rules.specs.History.{Call, loading, forcing, basing, resetting, askingHigh, listing, listingUndefined, ending, workFits, leftOver, stateAfter, called}
 use Rattle.rules.proofs.TestLaws.{Every, every-found, all-cons, all-weaken}
 use Rattle.rules.proofs.BoolLaws.{cond-cases}

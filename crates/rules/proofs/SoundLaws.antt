@@ -1,19 +1,18 @@
 -- Placing a legal module takes a sound state to a sound state.
-use Prim.Native.Nat.{ℕ, zero, suc, _+_, _-_, _<_, _≤_, _^_, zero-le, suc-le-suc}
-use native.Mathlib.Nat.{le-refl, le-step}
+use Prim.Native.Nat.{ℕ, suc, _+_, _-_, _<_, _≤_, _^_, zero-le, suc-le-suc}
+use native.Mathlib.Nat.{le-refl}
 use native.Mathlib.Omega.{arith}
-use mathlib.Core.Bool.{Bool, true, false, cond, not, _&&_, _||_, true≢false, false≢true}
-use mathlib.Core.List.{List, [], _∷_, map}
-use mathlib.Core.Path.{_≡_, refl, sym, ap, _∙_}
-use lib.ListN.{length, getD, set, length-set}
+use mathlib.Core.Bool.{Bool, true, false, cond, _&&_, _||_, false≢true}
+use mathlib.Core.List.{List, [], _∷_}
+use mathlib.Core.Path.{_≡_, refl, _∙_}
+use lib.ListN.{length, set}
 use lib.Dec.{eqb, ltb, leb}
-use borrow.Author.Tests.{ltb-true, ltb-false, lt-ltb, le-leb, leb-true, leb-false, eqb-true, eq-eqb, eqb-false}
+use borrow.Author.Tests.{ltb-true, ltb-false, lt-ltb, le-leb, leb-true, eqb-true, eq-eqb, eqb-false}
 use Rattle.rules.specs.Text.{all, any, isPacked}
 use Rattle.rules.specs.State.{Symbol, symbol, nameIs, isSymbol, positionOf, Word, unplaced, plain, refers, State, state, soundSymbol, soundSymbolOver, differentNames, soundWord, sound, soundOver}
 use Rattle.rules.specs.Reading.{Module}
-use Rattle.rules.specs.Demand.{isExternal, isEntry}
-use Rattle.rules.specs.declared.line.CodeWord.{CodeWord}
-use Rattle.rules.specs.Placing.{Code, entries, externals, code, moduleLength, valueAt, define, mention, defineAll, mentionAll, joined, linked, putAll, noRoom, badArgument, badArguments, outOfRange, tableFull, overlaps, duplicates, placingFault, placed, externalName}
+use Rattle.rules.specs.Demand.{isExternal}
+use Rattle.rules.specs.Placing.{Code, entries, externals, code, moduleLength, valueAt, define, mention, defineAll, mentionAll, joined, linked, putAll, noRoom, badArgument, badArguments, outOfRange, tableFull, placed, externalName}
 use Rattle.rules.specs.declared.line.Entry.{Entry}
 use Rattle.rules.specs.declared.line.Relocation.{Relocation}
 use Rattle.rules.specs.declared.line.Relocation.the-variants.{Plain, External, Unread}

@@ -18,7 +18,6 @@ use Rattle.rules.specs.declared.reading.Reading.the-variants.{Complete, 
 use Rattle.rules.proofs.BoolLaws.{cond-cases, never}
 use Rattle.rules.proofs.SearchLaws.{search-keeps}
 use Rattle.rules.proofs.TableLaws.{different-joined}
-use Rattle.rules.proofs.TestLaws.{between-low}
 use Rattle.rules.proofs.AnswerLaws.{readingNumber, reading-number, right-wider, right-fault, file-fault-low}
 
 -- ---- a refused walk stays refused: where the walk is accepted afterwards, it was before

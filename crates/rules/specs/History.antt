@@ -1,14 +1,14 @@
 -- Calls in a row: what comes back of each, and the state that each leaves. Then document 01, "The image": "Placed words always equal
 -- the sum of the CODE counts of all modules placed since the reset."
 use Prim.Native.Nat.{ℕ, _+_}
-use mathlib.Core.Bool.{Bool, true, false, cond, _||_}
+use mathlib.Core.Bool.{Bool, cond, _||_}
 use mathlib.Core.List.{List, [], _∷_, _++_}
 use lib.ListN.{length}
 use lib.Dec.{eqb, leb}
 use Rattle.rules.specs.Limits.{workSize}
 use Rattle.rules.specs.Text.{Alphabet, isNameCharacter}
 use Rattle.rules.specs.Reading.{Module, Item, free, section, itemsOf}
-use Rattle.rules.specs.State.{State, fresh}
+use Rattle.rules.specs.State.{State}
 use Rattle.rules.specs.Placing.{codeCount}
 use Rattle.rules.specs.Search.{ModuleSet}
 use Rattle.rules.specs.Answers.{DONE, BUFFER, DAMAGED, RESET, FROZEN, TOO-LONG, RANGE, TABLE, NAME, OUT, isFileFault}

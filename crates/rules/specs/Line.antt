@@ -1,10 +1,10 @@
 -- Document 01, "The lines": what a line says, by what is expected of it, or its fault.
-use Prim.Native.Nat.{ℕ, suc, _+_, _*_}
-use mathlib.Core.Bool.{Bool, true, false, cond, not, _&&_}
+use Prim.Native.Nat.{ℕ, _+_, _*_}
+use mathlib.Core.Bool.{Bool, true, false, cond, not}
 use mathlib.Core.List.{List, [], _∷_, _++_}
 use mathlib.Core.Option.{Option, none, some}
 use lib.ListN.{length, getD}
-use lib.Dec.{eqb, leb, ltb}
+use lib.Dec.{eqb, leb}
 use Prim.Native.String.{String}
 use Rattle.rules.specs.Limits.{longestLine, largestNumber, mostSubRecords}
 use Rattle.rules.specs.Text.{bytes, sameText, Field, fieldsOf, numberOf, Alphabet, isNameCharacter, nameOver, legalFront, between}

@@ -1,9 +1,9 @@
 -- Document 01, "Order": the walk over what a file holds, and what a load comes to.
 use Prim.Native.Nat.{ℕ, _+_}
-use mathlib.Core.Bool.{Bool, true, false, cond, not, _&&_, _||_}
+use mathlib.Core.Bool.{Bool, cond, _&&_}
 use mathlib.Core.List.{List, [], _∷_, _++_, map}
 use lib.ListN.{length}
-use lib.Dec.{eqb, ltb}
+use lib.Dec.{eqb}
 use Rattle.rules.specs.Text.{any, Alphabet, isNameCharacter}
 use Rattle.rules.specs.Answers.{DONE, DUPLICATE}
 use Rattle.rules.specs.Reading.{Module, Item, free, section, readingOver, itemsOver}

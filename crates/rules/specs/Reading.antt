@@ -1,5 +1,5 @@
 -- Document 01, "The lines": the blocks of a file, in order; answers 6 to 8 and 17 to 21; and what a file holds.
-use Prim.Native.Nat.{ℕ, suc, _+_, _-_}
+use Prim.Native.Nat.{ℕ, _+_, _-_}
 use mathlib.Core.Bool.{Bool, true, false, cond, not, _&&_, _||_}
 use mathlib.Core.List.{List, [], _∷_, _++_}
 use lib.Dec.{eqb, leb, ltb}
@@ -8,7 +8,6 @@ use Rattle.rules.specs.Text.{linesOf, Alphabet, isNameCharacter}
 use Rattle.rules.specs.Answers.{PLACE, LIST}
 use Rattle.rules.specs.Line.{lineAnswerOver}
 use Rattle.rules.specs.Faults.{faultNumber}
-use Rattle.rules.specs.declared.line.Fault.{Fault}
 use Rattle.rules.specs.declared.line.CodeWord.{CodeWord}
 use Rattle.rules.specs.declared.line.Entry.{Entry}
 use Rattle.rules.specs.declared.line.Header.{Header}

@@ -1,8 +1,8 @@
 -- Document 01, "What the calls return": the state of a link, and when it is sound.
-use Prim.Native.Nat.{ℕ, _+_, _-_, _*_, _^_}
+use Prim.Native.Nat.{ℕ, _+_, _-_, _^_}
 use mathlib.Core.Bool.{Bool, true, false, cond, not, _&&_, _||_}
 use mathlib.Core.List.{List, [], _∷_}
-use lib.ListN.{length, getD, replicate}
+use lib.ListN.{length, replicate}
 use lib.Dec.{eqb, leb, ltb}
 use Rattle.rules.specs.Limits.{programWords, mostSymbols, largestNumber, noAddress}
 use Rattle.rules.specs.Text.{all, any, Alphabet, isNameCharacter, isPackedOver}

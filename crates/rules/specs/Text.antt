@@ -1,12 +1,12 @@
 -- Document 01, "The lines" and "Numbers that bound it": lines, fields, numbers and names, over lists of bytes.
 use Prim.Native.Nat.{ℕ, zero, suc, _+_, _-_, _*_, _/_, _%_, _^_}
-use Prim.Native.Char.{Char, code}
+use Prim.Native.Char.{code}
 use Prim.Native.String.{String, [] as none-left, _∷_ as _then_}
 use mathlib.Core.Bool.{Bool, true, false, cond, not, _&&_, _||_}
 use mathlib.Core.List.{List, [], _∷_, map}
 use mathlib.Core.Option.{Option, none, some}
 use lib.ListN.{length, getD}
-use lib.Dec.{eqb, leb, ltb}
+use lib.Dec.{eqb, leb}
 use Rattle.rules.specs.Limits.{mostDigits, largestNumber, longestName}
 
 -- a quoted text as bytes
@@ -137,8 +137,8 @@ dollar = 36
 abbrev pub dot : ℕ
 dot = 46
 
--- An alphabet: the characters that a name may have. What a name is, and each rule that asks for one, is said over an alphabet, and
--- then by the rules' own.
+-- An alphabet: the characters that a name may have. What a name is, and each rule that asks for one, is said over an alphabet, under a
+-- name that ends in `Over`; the name without that means the rules' own alphabet.
 abbrev pub Alphabet : Type 0
 Alphabet = ℕ → Bool
 

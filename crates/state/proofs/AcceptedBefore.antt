@@ -13,7 +13,7 @@ use Rattle.rules.specs.Answers.{DONE}
 use Rattle.rules.specs.Calls.{Lent, wrongLength, damaged, holding, load, loadOver, loadLentOver}
 use Rattle.rules.specs.History.{Call, Reply, numberIn}
 use Rattle.rules.proofs.TestLaws.{Every, and-intro, and-left, and-right}
-use Rattle.rules.proofs.AlphabetLaws.{RefusedName, CallGrows, call-grows, damaged-grows}
+use Rattle.rules.proofs.AlphabetCalls.{RefusedName, CallGrows, call-grows, damaged-grows}
 use Rattle.rules.proofs.AcceptedBefore.{letters-within, state-stays, load-stays}
 use Rattle.state.specs.Layout.{size, encode, decode, soundCells, soundCellsOver, lent, lentOver, cellsAfter}
 use Rattle.state.specs.Sequence.{cellsCalledOver, RepliedOver, RunOver, stop, step, Replied, Run, Alike, none, same}

@@ -10,7 +10,7 @@ use mathlib.Core.Logic.{_≢_}
 use lib.Dec.{eqb}
 use borrow.Author.Tests.{eq-eqb, ne-eqb}
 use lib.ListN.{length, drop, getD}
-use Rattle.rules.specs.Text.{between, all, isLetter, isDigit, isNameCharacter, isName, isNameOver, packName, nameOf, nameOver}
+use Rattle.rules.specs.Text.{all, isLetter, isDigit, isNameCharacter, isName, isNameOver, packName, nameOf, nameOver}
 use Rattle.text.proofs.ScanLaws.{all-step, all-stop, all-end, between-yes, and-false, too-short, too-long}
 
 -- ---- one character
