@@ -4,7 +4,7 @@ use std::fmt;
 
 const LONGEST: usize = 6;
 
-/// A legal name: 1 to 6 of A to Z and 0 to 9, the first a letter.
+/// A legal name: a letter, and up to five characters that may follow it.
 ///
 /// It is kept as state memory has it, six bytes in base 256, the first character highest and zero where the name is
 /// shorter, so that a name is hashed and compared as one number.
@@ -16,7 +16,7 @@ impl Name {
         if text.len() > LONGEST || !text.first()?.is_ascii_uppercase() {
             return None;
         }
-        if !text.iter().all(|b| b.is_ascii_uppercase() || b.is_ascii_digit()) {
+        if !text.iter().all(|&b| may_follow(b)) {
             return None;
         }
         let mut bytes = [0; 8];
@@ -38,6 +38,11 @@ impl Name {
     }
 }
 
+/// Whether a character may follow the first letter of a name: A to Z, 0 to 9, and since request 4/14 `$` and `.`.
+fn may_follow(byte: u8) -> bool {
+    matches!(byte, b'A'..=b'Z' | b'0'..=b'9' | b'$' | b'.')
+}
+
 impl fmt::Display for Name {
     fn fmt(&self, f: &mut fmt::Formatter<'_>) -> fmt::Result {
         self.0.to_be_bytes().iter().filter(|&&b| b != 0).try_for_each(|&b| write!(f, "{}", char::from(b)))
@@ -54,25 +59,40 @@ impl fmt::Debug for Name {
 mod tests {
     use super::*;
 
+    const LEGAL: [&str; 9] = ["A", "Z9", "ABCDEF", "A00000", "A$B", "IO.1", "A.....", "A$$$$$", "Z."];
+    /// Of those that fit into a cell, `#`, `%`, `-` and `/` are the bytes beside `$` and `.`.
+    const ILLEGAL: [&str; 17] = [
+        "1A", "$A", ".A", "$", ".", "a", "aA", "Aa", "A$.z", "ABCDEf", "A-B", "A_B", "A#B", "A%B", "A/B", "A B", "A\0B",
+    ];
+
     #[test]
     fn legal_and_illegal() {
-        for text in ["A", "Z9", "ABCDEF", "A00000"] {
+        for text in LEGAL {
             let name = Name::parse(text.as_bytes()).expect(text);
             assert_eq!(name.to_string(), text);
-            assert_eq!(Name::from_packed(name.packed()), Some(name));
         }
-        for text in ["", "1A", "ABCDEFG", "a", "A.B", "A B", "A\0", "\0A", "$"] {
+        for text in ILLEGAL.into_iter().chain(["", "A\0", "\0A", "ABCDEFG", "A$B.C1D", "A......"]) {
             assert_eq!(Name::parse(text.as_bytes()), None, "{text:?}");
         }
+    }
+
+    /// Six bytes in base 256, whatever the text.
+    fn cell_of(text: &str) -> u64 {
+        (0..LONGEST).fold(0, |cell, place| cell << 8 | u64::from(*text.as_bytes().get(place).unwrap_or(&0)))
     }
 
     #[test]
     fn packed_cells() {
         assert_eq!(Name::parse(b"A").unwrap().packed(), 0x41_00_00_00_00_00);
         assert_eq!(Name::parse(b"ABCDEF").unwrap().packed(), 0x41_42_43_44_45_46);
-        for cell in
-            [0, 0x41, 0x41_00_42_00_00_00, 0x01_41_00_00_00_00_00, 0x30_41_00_00_00_00, 0x61_00_00_00_00_00, u64::MAX]
-        {
+        assert_eq!(Name::parse(b"A$B.").unwrap().packed(), 0x41_24_42_2E_00_00);
+        for text in LEGAL {
+            assert_eq!(Name::from_packed(cell_of(text)), Name::parse(text.as_bytes()), "{text:?}");
+        }
+        for text in ILLEGAL {
+            assert_eq!(Name::from_packed(cell_of(text)), None, "{text:?}");
+        }
+        for cell in [0, 0x41, 0x01_41_00_00_00_00_00, 0x41_24_42_2E_43_31_44, u64::MAX] {
             assert_eq!(Name::from_packed(cell), None, "{cell:x}");
         }
     }

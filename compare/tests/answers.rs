@@ -285,7 +285,7 @@ fn number_14_table() {
 #[test]
 fn number_15_name() {
     let mut linker = Linker::new();
-    for text in ["", "a", "1A", "ABCDEFG", "A ", "A.B", "\0"] {
+    for text in ["", "a", "1A", ".A", "$", "ABCDEFG", "A ", "A-B", "\0"] {
         assert_eq!(linker.force(text.as_bytes()), Err(Reason::Name.into()), "{text:?}");
     }
     assert_eq!(linker, Linker::new());

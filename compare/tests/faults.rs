@@ -119,7 +119,7 @@ fn number_19_names() {
             (&module("A", "10 1 A\t 0 ***DBDB\n"), 3, 6),
         ],
     );
-    record_told(19, "4 1 ***ENTRY", &[("1 0 0", 1), ("A.B 8 2", 1)]);
+    record_told(19, "4 1 ***ENTRY", &[("1 0 0", 1), ("A-B 8 2", 1), (".B 8 2", 1)]);
     record_told(19, "5 1 ***EXT", &[("A\t", 1), (" *", 2)]);
 }
 

@@ -158,7 +158,7 @@ fn names_at_each_place() -> Vec<Case> {
         ("3 ***TITLE\nA\n5 1 ***EXT\n@\n1 ***END\nA\n", 4, 1),
         ("3 ***TITLE\nA\n10 0 @ 0 ***DBDB\n1 ***END\nA\n", 3, 6),
     ] {
-        for (name, number) in [("ABCDEF", 0), ("ABCDEFG", 19), ("1BCDEF", 19), ("ABCDEf", 19), ("ABC.EF", 19)] {
+        for (name, number) in [("ABCDEF", 0), ("ABCDEFG", 19), ("1BCDEF", 19), ("ABCDEf", 19), ("ABC-EF", 19)] {
             let label = format!("the name {name:?} in {:?}", file.lines().nth(line - 1).unwrap_or_default());
             cases.push(case(label, [load_or_refused(file.replace('@', name), number, line as u64, column)]));
         }
