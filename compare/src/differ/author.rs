@@ -3,6 +3,7 @@
 use std::collections::HashSet;
 
 use super::draft::Draft;
+use super::names::Alphabet;
 use super::rng::Rng;
 
 /// Writes the files of one case, which share their names so that they meet each other's symbols.
@@ -117,11 +118,12 @@ impl Author {
     }
 }
 
+/// Any name. Most have letters and digits alone, as in most shops; some have `$` and `.` all over.
 pub fn random_name(rng: &mut Rng) -> String {
-    const CHARACTERS: &[u8] = b"ABCDEFGHIJKLMNOPQRSTUVWXYZ0123456789";
+    let alphabet = *rng.pick(&[Alphabet::OLD, Alphabet::OLD, Alphabet::WHOLE, Alphabet::ENDS]);
     let length = rng.within(1..=6);
-    let mut name = String::from(char::from(CHARACTERS[rng.below(26)]));
-    name.extend((1..length).map(|_| char::from(*rng.pick(CHARACTERS))));
+    let mut name = String::from(char::from(b'A' + rng.below(26) as u8));
+    name.extend((1..length).map(|_| alphabet.any(rng)));
     name
 }
 

@@ -7,7 +7,7 @@ use super::author::random_name;
 use super::case::{Call, Case, Origin, Step};
 use super::draft::Draft;
 use super::lookups::LONG;
-use super::names::{close_names, of_remainder, Order, SLOTS};
+use super::names::{close_names, Alphabet, Order, SLOTS};
 use super::rng::Rng;
 use crate::linker::MOST_SYMBOLS;
 use crate::memory::*;
@@ -176,8 +176,8 @@ impl Table {
 
 /// A library where many names or a few share a remainder, some of them wanted; now and then one is an entry twice.
 pub fn section(rng: &mut Rng) -> Case {
-    let mut names: Vec<String> =
-        of_remainder(rng.next() % SLOTS).map(|name| name.to_string()).skip(rng.below(100)).take(400).collect();
+    let alike = Alphabet::WHOLE.of_remainder(rng.next() % SLOTS);
+    let mut names: Vec<String> = alike.map(|name| name.to_string()).skip(rng.below(100)).take(400).collect();
     rng.shuffle(&mut names);
     names.truncate(if rng.percent(50) { rng.within(2..=8) } else { rng.within(64..=400) });
     rng.pick(&Order::ALL).arrange(&mut names, rng);

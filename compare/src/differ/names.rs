@@ -9,51 +9,76 @@ use crate::name::Name;
 /// The verified linker parts the entries of a section into so many slots, by the remainder of the packed name.
 pub const SLOTS: u64 = 2039;
 
-/// In the order of their packed bytes.
-const CHARACTERS: &[u8; 36] = b"0123456789ABCDEFGHIJKLMNOPQRSTUVWXYZ";
+const LETTERS: u64 = 26;
 const LONGEST: u32 = 6;
 
-/// How many names of this length there are.
-pub fn count_of_length(length: u32) -> u64 {
-    26 * 36u64.pow(length - 1)
-}
+/// The characters that request 4/14 adds to document 01's.
+pub const ADDED: &[u8] = b"$.";
 
-/// The packed name of this length that has so many before it.
-pub fn packed_at(length: u32, mut number: u64) -> u64 {
-    let mut packed = 0;
-    for place in (1..length).rev() {
-        packed |= u64::from(CHARACTERS[(number % 36) as usize]) << shift(place);
-        number /= 36;
+/// Characters behind the first letter of a name, in the order of their packed bytes.
+#[derive(Clone, Copy, Debug)]
+pub struct Alphabet(&'static [u8]);
+
+impl Alphabet {
+    /// All that may stand there.
+    pub const WHOLE: Alphabet = Alphabet(b"$.0123456789ABCDEFGHIJKLMNOPQRSTUVWXYZ");
+    /// Document 01's, which are behind the added ones. The benchmark's names are of these, so that its rows stay as they were.
+    pub const OLD: Alphabet = Alphabet(Alphabet::WHOLE.0.split_at(ADDED.len()).1);
+    /// The ends of each run of characters.
+    pub const ENDS: Alphabet = Alphabet(b"$.09AZ");
+
+    pub fn characters(self) -> impl Iterator<Item = char> {
+        self.0.iter().map(|&character| char::from(character))
     }
-    packed | (u64::from(b'A') + number) << shift(0)
+
+    /// One of the characters.
+    pub fn any(self, rng: &mut Rng) -> char {
+        char::from(*rng.pick(self.0))
+    }
+
+    /// How many names of this length there are.
+    pub fn count_of_length(self, length: u32) -> u64 {
+        LETTERS * (self.0.len() as u64).pow(length - 1)
+    }
+
+    /// The packed name of this length that has so many before it.
+    pub fn packed_at(self, length: u32, mut number: u64) -> u64 {
+        let count = self.0.len() as u64;
+        let mut packed = 0;
+        for place in (1..length).rev() {
+            packed |= u64::from(self.0[(number % count) as usize]) << shift(place);
+            number /= count;
+        }
+        packed | (u64::from(b'A') + number) << shift(0)
+    }
+
+    /// The names whose packed form has this remainder by `SLOTS`, by length and then rising. The last character is worked out
+    /// from those before it, so that thousands of names take some milliseconds.
+    pub fn of_remainder(self, remainder: u64) -> impl Iterator<Item = Name> {
+        (1..=LONGEST).flat_map(move |length| {
+            let last = self.last_characters(length);
+            let fronts = if length == 1 { 1 } else { self.count_of_length(length - 1) };
+            (0..fronts).filter_map(move |number| {
+                let front = if length == 1 { 0 } else { self.packed_at(length - 1, number) };
+                let wanted = (remainder + SLOTS - front % SLOTS) % SLOTS;
+                Name::from_packed(front | last[wanted as usize]?)
+            })
+        })
+    }
+
+    /// What a last character adds to a name of this length, by its remainder: no two characters have the same one.
+    fn last_characters(self, length: u32) -> Vec<Option<u64>> {
+        let mut last = vec![None; SLOTS as usize];
+        for &character in self.0.iter().filter(|character| length > 1 || character.is_ascii_uppercase()) {
+            let added = u64::from(character) << shift(length - 1);
+            last[(added % SLOTS) as usize] = Some(added);
+        }
+        last
+    }
 }
 
 fn shift(place: u32) -> u32 {
     8 * (LONGEST - 1 - place)
-}
-
-/// The names whose packed form has this remainder by `SLOTS`, by length and then rising. The last character is worked out
-/// from those before it, so that thousands of names take some milliseconds.
-pub fn of_remainder(remainder: u64) -> impl Iterator<Item = Name> {
-    (1..=LONGEST).flat_map(move |length| {
-        let last = last_characters(length);
-        let fronts = if length == 1 { 1 } else { count_of_length(length - 1) };
-        (0..fronts).filter_map(move |number| {
-            let front = if length == 1 { 0 } else { packed_at(length - 1, number) };
-            let wanted = (remainder + SLOTS - front % SLOTS) % SLOTS;
-            Name::from_packed(front | last[wanted as usize]?)
-        })
-    })
-}
-
-/// What a last character adds to a name of this length, by its remainder: no two characters have the same one.
-fn last_characters(length: u32) -> Vec<Option<u64>> {
-    let mut last = vec![None; SLOTS as usize];
-    for &character in CHARACTERS.iter().filter(|character| length > 1 || character.is_ascii_uppercase()) {
-        let added = u64::from(character) << shift(length - 1);
-        last[(added % SLOTS) as usize] = Some(added);
-    }
-    last
 }
 
 /// The order in which names are met.
@@ -96,12 +121,12 @@ pub fn close_names(count: usize, rng: &mut Rng) -> Vec<String> {
     while names.len() < count {
         let mut name = if names.is_empty() || rng.percent(40) { random_name(rng) } else { rng.pick(&names).clone() };
         match rng.below(4) {
-            0 => name.push(char::from(*rng.pick(b"0A9Z"))),
-            1 => name.push(char::from(*rng.pick(CHARACTERS))),
+            0 => name.push(Alphabet::ENDS.any(rng)),
+            1 => name.push(Alphabet::WHOLE.any(rng)),
             2 => drop(name.pop()),
             _ => {
                 name.pop();
-                name.push(char::from(*rng.pick(CHARACTERS)));
+                name.push(Alphabet::WHOLE.any(rng));
             }
         }
         if Name::parse(name.as_bytes()).is_some() && seen.insert(name.clone()) {
@@ -137,26 +162,43 @@ mod tests {
     }
 
     #[test]
+    fn alphabets() {
+        let may_follow = |byte: &u8| Name::parse(&[b'A', *byte]).is_some();
+        assert!((0..=255).filter(may_follow).eq(Alphabet::WHOLE.0.iter().copied()));
+        assert_eq!(Alphabet::OLD.0, b"0123456789ABCDEFGHIJKLMNOPQRSTUVWXYZ");
+        assert!(Alphabet::ENDS.0.iter().all(may_follow));
+    }
+
+    #[test]
     fn names_by_number() {
-        for (length, number, name) in [(1, 0, "A"), (1, 25, "Z"), (2, 0, "A0"), (2, 35, "AZ"), (2, 36, "B0")] {
-            assert_eq!(packed_at(length, number), packed(name));
+        for (number, name) in [(0, "A$"), (1, "A."), (2, "A0"), (37, "AZ"), (38, "B$")] {
+            assert_eq!(Alphabet::WHOLE.packed_at(2, number), packed(name));
         }
-        assert_eq!(packed_at(6, count_of_length(6) - 1), packed("ZZZZZZ"));
+        for (number, name) in [(0, "A0"), (35, "AZ"), (36, "B0")] {
+            assert_eq!(Alphabet::OLD.packed_at(2, number), packed(name));
+        }
+        for alphabet in [Alphabet::WHOLE, Alphabet::OLD] {
+            assert_eq!([0, 25].map(|number| alphabet.packed_at(1, number)), [packed("A"), packed("Z")]);
+            assert_eq!(alphabet.packed_at(6, alphabet.count_of_length(6) - 1), packed("ZZZZZZ"));
+        }
     }
 
     #[test]
     fn names_of_one_remainder() {
-        for remainder in [0, 1, packed("N0") % SLOTS, SLOTS - 1] {
-            let names: Vec<Name> = of_remainder(remainder).take(700).collect();
-            assert!(names.iter().all(|name| name.packed() % SLOTS == remainder));
-            let by_length: BTreeSet<(usize, Name)> = names.iter().map(|name| (name.to_string().len(), *name)).collect();
-            assert!(by_length.into_iter().map(|(_, name)| name).eq(names));
+        for (alphabet, count) in [(Alphabet::WHOLE, 38), (Alphabet::OLD, 36)] {
+            for remainder in [0, 1, packed("N0") % SLOTS, SLOTS - 1] {
+                let names: Vec<Name> = alphabet.of_remainder(remainder).take(700).collect();
+                assert!(names.iter().all(|name| name.packed() % SLOTS == remainder));
+                let by_length: BTreeSet<(usize, Name)> =
+                    names.iter().map(|name| (name.to_string().len(), *name)).collect();
+                assert!(by_length.into_iter().map(|(_, name)| name).eq(names));
+            }
+            assert!(alphabet.of_remainder(packed("A") % SLOTS).any(|name| name.packed() == packed("A")));
+            // None is left out: every name of up to three characters has one of the remainders.
+            let is_short = |name: &Name| name.packed() << 40 == 0;
+            let short: usize = (0..SLOTS).map(|each| alphabet.of_remainder(each).take_while(is_short).count()).sum();
+            assert_eq!(short, 26 + 26 * count + 26 * count * count);
         }
-        assert!(of_remainder(packed("A") % SLOTS).any(|name| name.packed() == packed("A")));
-        // None is left out: every name of up to three characters has one of the remainders.
-        let short: usize =
-            (0..SLOTS).map(|each| of_remainder(each).take_while(|name| name.packed() << 40 == 0).count()).sum();
-        assert_eq!(short, 26 + 26 * 36 + 26 * 36 * 36);
     }
 
     #[test]

@@ -3,7 +3,7 @@
 use std::fmt::Display;
 
 use compare::calls::Calls;
-use compare::differ::names::{count_of_length, of_remainder, packed_at};
+use compare::differ::names::Alphabet;
 use compare::differ::rng::Rng;
 use compare::lent::Lent;
 use compare::linker::LONGEST_FILE;
@@ -176,7 +176,7 @@ fn externals_beside_250(divisor: usize, mut externals: impl FnMut() -> Vec<Name>
 fn entries_of_one_remainder(divisor: usize) -> Input {
     let length = LONGEST_FILE / divisor - 18;
     // More names than fit; a name of fewer characters makes a shorter record, so the shortest ones are taken.
-    let shortest: Vec<Name> = of_remainder(0).take(length / 10).collect();
+    let shortest: Vec<Name> = Alphabet::OLD.of_remainder(0).take(length / 10).collect();
     let fit = entry_modules(&shortest, length).1;
     let mut names = shortest[..fit].to_vec();
     names.sort_unstable();
@@ -263,7 +263,7 @@ const SCATTERED: usize = 250;
 /// Names of six characters, from all over the alphabet and in no order; the same ones in front, however many are asked for.
 fn scattered_names(count: usize) -> Vec<Name> {
     let mut rng = Rng::new(6);
-    let mut number = || packed_at(6, rng.next() % count_of_length(6));
+    let mut number = || Alphabet::OLD.packed_at(6, rng.next() % Alphabet::OLD.count_of_length(6));
     (0..count).map(|_| Name::from_packed(number()).expect("a legal name")).collect()
 }
 

@@ -1,7 +1,7 @@
 //! Names in long tables and in sections of one remainder: what is found, what joins where, and what is refused.
 
 use super::super::case::Index;
-use super::super::names::{of_remainder, Order, SLOTS};
+use super::super::names::{Alphabet, Order, SLOTS};
 use super::*;
 use crate::calls::{SymbolAnswer, UndefinedAnswer};
 use crate::memory::{COUNT, NAMES};
@@ -215,8 +215,9 @@ fn references() -> Vec<Case> {
 
 /// Names that part in the last character or in the length alone are different ones, also beside 200 others.
 fn close() -> Vec<Case> {
-    let last: Vec<String> = ('0'..='9').chain('A'..='Z').map(|last| format!("ABCDE{last}")).collect();
-    let lengths = list(&["A", "A0", "A00", "A000", "A0000", "A00000", "AA", "AAA", "AB", "ABC", "ABCD", "ABCDE"]);
+    let last: Vec<String> = Alphabet::WHOLE.characters().map(|last| format!("ABCDE{last}")).collect();
+    let lengths =
+        list(&["A", "A$", "A$.", "A0", "A00", "A000", "A0000", "A00000", "AA", "AAA", "AB", "ABC", "ABCD", "ABCDE"]);
     let names = [last, lengths].concat();
     let mut cases = Vec::new();
     for (label, joining) in [("forward", names.clone()), ("backward", names.iter().rev().cloned().collect::<Vec<_>>())]
@@ -377,8 +378,8 @@ fn rejoined() -> Vec<Case> {
 fn remainders() -> Vec<Case> {
     let mut cases = Vec::new();
     for count in [2, 3, 64, 255, 640, 4000] {
-        let rising: Vec<String> =
-            of_remainder(packed("N0") % SLOTS).take(count + 1).map(|name| name.to_string()).collect();
+        let alike = Alphabet::WHOLE.of_remainder(packed("N0") % SLOTS);
+        let rising: Vec<String> = alike.take(count + 1).map(|name| name.to_string()).collect();
         for order in [Order::Rising, Order::Falling] {
             let (mut names, vain) = (rising[..count].to_vec(), &rising[count]);
             if order == Order::Falling {
@@ -407,7 +408,7 @@ fn remainders() -> Vec<Case> {
             }
         }
     }
-    let names: Vec<String> = of_remainder(0).take(100).map(|name| name.to_string()).collect();
+    let names: Vec<String> = Alphabet::WHOLE.of_remainder(0).take(100).map(|name| name.to_string()).collect();
     let chain: Vec<String> = (names.iter().enumerate())
         .map(|(i, name)| module("C", &(defined(&[(name, i as u16)]) + &externals(&names[(i + 1) % 100..][..1]))))
         .collect();
