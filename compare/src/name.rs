@@ -58,9 +58,10 @@ impl fmt::Debug for Name {
 #[cfg(test)]
 mod tests {
     use super::*;
+    use crate::differ::names::cell_of;
 
     const LEGAL: [&str; 9] = ["A", "Z9", "ABCDEF", "A00000", "A$B", "IO.1", "A.....", "A$$$$$", "Z."];
-    /// Of those that fit into a cell, `#`, `%`, `-` and `/` are the bytes beside `$` and `.`.
+    /// None is too long for a cell. `#`, `%`, `-` and `/` are the bytes beside `$` and `.`.
     const ILLEGAL: [&str; 17] = [
         "1A", "$A", ".A", "$", ".", "a", "aA", "Aa", "A$.z", "ABCDEf", "A-B", "A_B", "A#B", "A%B", "A/B", "A B", "A\0B",
     ];
@@ -76,23 +77,18 @@ mod tests {
         }
     }
 
-    /// Six bytes in base 256, whatever the text.
-    fn cell_of(text: &str) -> u64 {
-        (0..LONGEST).fold(0, |cell, place| cell << 8 | u64::from(*text.as_bytes().get(place).unwrap_or(&0)))
-    }
-
     #[test]
     fn packed_cells() {
         assert_eq!(Name::parse(b"A").unwrap().packed(), 0x41_00_00_00_00_00);
         assert_eq!(Name::parse(b"ABCDEF").unwrap().packed(), 0x41_42_43_44_45_46);
         assert_eq!(Name::parse(b"A$B.").unwrap().packed(), 0x41_24_42_2E_00_00);
         for text in LEGAL {
-            assert_eq!(Name::from_packed(cell_of(text)), Name::parse(text.as_bytes()), "{text:?}");
+            assert_eq!(Name::from_packed(cell_of(text.as_bytes())), Name::parse(text.as_bytes()), "{text:?}");
         }
         for text in ILLEGAL {
-            assert_eq!(Name::from_packed(cell_of(text)), None, "{text:?}");
+            assert_eq!(Name::from_packed(cell_of(text.as_bytes())), None, "{text:?}");
         }
-        for cell in [0, 0x41, 0x01_41_00_00_00_00_00, 0x41_24_42_2E_43_31_44, u64::MAX] {
+        for cell in [0, 0x41, 0x01_41_00_00_00_00_00, cell_of(b"A$B.C1D"), u64::MAX] {
             assert_eq!(Name::from_packed(cell), None, "{cell:x}");
         }
     }

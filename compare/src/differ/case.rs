@@ -5,6 +5,7 @@ use std::fmt;
 use super::author::Author;
 use super::damage::{damaged, odd_lines};
 use super::long;
+use super::names::misspelled;
 use super::rng::Rng;
 use super::states;
 use crate::calls::{SymbolAnswer, UndefinedAnswer};
@@ -189,10 +190,11 @@ fn odd_file(rng: &mut Rng) -> Vec<u8> {
 fn random_forced(author: &Author, rng: &mut Rng) -> Vec<u8> {
     let mut name = author.any_name(rng).into_bytes();
     if rng.percent(15) {
-        match rng.below(4) {
+        match rng.below(6) {
             0 => name.clear(),
             1 => name.push(rng.next() as u8),
             2 => name.extend_from_slice(b"ABC"),
+            3 | 4 => name = misspelled(&name, rng),
             _ => {
                 let at = rng.below(name.len());
                 name[at] = *rng.pick(b"\0 a0Z.$*\x7f\xff/:@[");

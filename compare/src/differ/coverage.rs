@@ -1,5 +1,5 @@
 //! What a run reached: how often each call gave each answer, which faults of lines were told, how many rounds the accepted
-//! loads had, where HIGH stood, and which names were looked for.
+//! loads had, where HIGH stood, which names were looked for, and where names with `$` and `.` stood.
 //! Document 01, with request 3/14, says which answers a call can give at all; a run that is meant to reach them all names those that it missed.
 
 use std::fmt;
@@ -7,6 +7,7 @@ use std::fmt;
 use super::case::{Call, Origin};
 use super::faults::Faults;
 use super::lookups::Lookups;
+use super::spelling::Spelling;
 use crate::linker::NO_ADDRESS;
 
 /// A column of the table: a call, and for LOAD where its file comes from.
@@ -99,6 +100,7 @@ pub struct Coverage {
     highs: [[u64; HIGHS.len()]; 2],
     pub faults: Faults,
     pub lookups: Lookups,
+    pub spelling: Spelling,
 }
 
 impl Coverage {
@@ -171,6 +173,7 @@ impl Coverage {
         }
         missing.extend(self.faults.missing());
         missing.extend(self.lookups.missing());
+        missing.extend(self.spelling.missing());
         missing
     }
 }
@@ -216,6 +219,7 @@ impl fmt::Display for Coverage {
             HIGHS.join(", ")
         )?;
         writeln!(f, "{}", self.faults)?;
-        self.lookups.fmt(f)
+        writeln!(f, "{}", self.lookups)?;
+        self.spelling.fmt(f)
     }
 }

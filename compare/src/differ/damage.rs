@@ -1,8 +1,10 @@
-//! Damages files: lines, fields and counts of a draft, then bytes; or one line alone.
+//! Damages files: lines, fields and counts of a draft, then bytes; or one line or one name alone.
 
 use super::draft::Draft;
 use super::line_damage::damage_a_line;
+use super::names::misspelled;
 use super::rng::Rng;
+use super::spelling::{names_of, Place};
 
 /// Fields that lie close to legal ones.
 pub const ODD_FIELDS: &[&str] = &[
@@ -48,6 +50,13 @@ pub const ODD_FIELDS: &[&str] = &[
     "a",
     "A.B",
     "A$",
+    ".A",
+    "$A",
+    "A#B",
+    "A%B",
+    "A-B",
+    "A/B",
+    "A$B.C1D",
     "_A",
     "***CODE",
     "***END",
@@ -95,11 +104,16 @@ const ODD_LINES: &[&str] = &[
 ];
 
 const ODD_BYTES: &[u8] =
-    &[0, 9, 10, 13, 27, 31, 32, 33, 42, 47, 48, 55, 56, 57, 64, 65, 90, 91, 97, 126, 127, 128, 255];
+    &[0, 9, 10, 13, 27, 31, 32, 33, 35, 36, 37, 42, 45, 46, 47, 48, 55, 56, 57, 64, 65, 90, 91, 97, 126, 127, 128, 255];
 
 /// A damaged file. The damage may still leave a file that loads.
 pub fn damaged(draft: &Draft, rng: &mut Rng) -> Vec<u8> {
     let mut draft = draft.clone();
+    if rng.percent(10) {
+        let mut file = draft.laid_out(rng);
+        misspell_a_name(&mut file, rng);
+        return file;
+    }
     if rng.percent(40) {
         let mut file = draft.laid_out(rng);
         damage_a_line(&mut file, rng);
@@ -125,6 +139,21 @@ pub fn odd_lines(rng: &mut Rng) -> Draft {
     }
     (0..rng.within(1..=8)).for_each(|_| draft.line(*rng.pick(ODD_LINES)));
     draft
+}
+
+/// Misspells some name of the file, if it has one: of a place that is drawn first, for few names are symbols of DBDB.
+fn misspell_a_name(file: &mut Vec<u8>, rng: &mut Rng) {
+    let mut names = names_of(file);
+    let mut places = Place::OF_FILES.to_vec();
+    places.retain(|&place| names.iter().any(|name| name.place == place));
+    if places.is_empty() {
+        return;
+    }
+    let place = *rng.pick(&places);
+    names.retain(|name| name.place == place);
+    let range = rng.pick(&names).range.clone();
+    let name = misspelled(&file[range.clone()], rng);
+    file.splice(range, name);
 }
 
 fn damage_draft(draft: &mut Draft, rng: &mut Rng) {

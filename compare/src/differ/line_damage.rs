@@ -41,7 +41,8 @@ fn pick_line(file: &[u8], rng: &mut Rng) -> Option<Range<usize>> {
     Some(rng.pick(&alike).clone())
 }
 
-fn fields(line: &[u8]) -> Vec<Range<usize>> {
+/// The places of a line's fields.
+pub fn fields(line: &[u8]) -> Vec<Range<usize>> {
     let mut start = 0;
     let mut fields = Vec::new();
     for part in line.split(|&byte| byte == b' ') {

@@ -15,5 +15,6 @@ pub mod names;
 pub mod play;
 pub mod rng;
 pub mod run;
+pub mod spelling;
 pub mod states;
 pub mod told;

@@ -136,6 +136,28 @@ pub fn close_names(count: usize, rng: &mut Rng) -> Vec<String> {
     names
 }
 
+/// A legal name with one thing wrong that lies close to what request 4/14 allows: an added character in front, a byte beside
+/// one of them or a small letter behind the first character, or a seventh character.
+pub fn misspelled(name: &[u8], rng: &mut Rng) -> Vec<u8> {
+    let mut name = name.to_vec();
+    match rng.below(4) {
+        0 => name[0] = *rng.pick(ADDED),
+        1 | 2 => {
+            let at = rng.within(1..=LONGEST as usize - 1).min(name.len());
+            name.resize(name.len().max(at + 1), 0);
+            name[at] = *rng.pick(b"#%-/a");
+        }
+        _ => name.resize_with(LONGEST as usize + 1, || *rng.pick(ADDED)),
+    }
+    name
+}
+
+/// What a cell would hold if this were a name; a seventh character makes it too large.
+pub fn cell_of(text: &[u8]) -> u64 {
+    let zeros = std::iter::repeat(&0);
+    text.iter().chain(zeros).take(text.len().max(LONGEST as usize)).fold(0, |cell, &byte| cell << 8 | u64::from(byte))
+}
+
 /// How two different names part, if they are close: in the last character alone, or in the length alone.
 pub fn closeness(one: u64, other: u64) -> Option<Closeness> {
     let text = |packed: u64| packed.to_be_bytes().into_iter().filter(|&byte| byte != 0).collect::<Vec<u8>>();
@@ -198,6 +220,16 @@ mod tests {
             let is_short = |name: &Name| name.packed() << 40 == 0;
             let short: usize = (0..SLOTS).map(|each| alphabet.of_remainder(each).take_while(is_short).count()).sum();
             assert_eq!(short, 26 + 26 * count + 26 * count * count);
+        }
+    }
+
+    #[test]
+    fn misspelled_names() {
+        let mut rng = Rng::new(1);
+        for _ in 0..1000 {
+            let name = misspelled(random_name(&mut rng).as_bytes(), &mut rng);
+            assert_eq!(Name::parse(&name), None, "{:?}", String::from_utf8_lossy(&name));
+            assert!(name.len() <= 7 && name.iter().all(u8::is_ascii_graphic));
         }
     }
 

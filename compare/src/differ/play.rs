@@ -250,6 +250,8 @@ impl<'a> Player<'a> {
         }
         noted?;
         self.note_file(&step.call, answer, &before);
+        let (number, line, _) = answer.parts();
+        self.coverage.spelling.note(&step.call, number, line, &before);
         self.check_paper(step, answer)?;
         if bytes != step.call.bytes() {
             return Err("wrote into the bytes that were lent for reading".into());

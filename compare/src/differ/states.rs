@@ -1,6 +1,7 @@
 //! Random states: sound ones that no sequence of calls need reach, and damaged ones that lie close to them.
 
 use super::author::{random_name, Author};
+use super::names::{cell_of, misspelled};
 use super::rng::Rng;
 use crate::memory::*;
 use crate::name::Name;
@@ -59,7 +60,7 @@ pub fn poke(cells: &[u64], rng: &mut Rng) -> (usize, u64) {
     let unused = count.min(NAMES.len() - 1);
     let address = rng.below(TAGS.len());
     let name = cells[NAMES.start + symbol];
-    match rng.below(24) {
+    match rng.below(27) {
         0 => (COUNT, *rng.pick(&[0, 1, 256, 257, u64::MAX])),
         1 => (COUNT, cells[COUNT].wrapping_add(1)),
         2 => (COUNT, cells[COUNT].wrapping_sub(1)),
@@ -82,6 +83,7 @@ pub fn poke(cells: &[u64], rng: &mut Rng) -> (usize, u64) {
         19 => (TAGS.start + address, (REFERENCE + count as u64).saturating_sub(1)),
         20 => (TAGS.start + *rng.pick(&[0, TAGS.len() - 1]), *rng.pick(&[0, 1, 2])),
         21 => (TEXTS.start + *rng.pick(&[0, TEXTS.len() - 1]), *rng.pick(&[0, 1])),
+        22..=24 => (NAMES.start + symbol, cell_of(&misspelled(random_name(rng).as_bytes(), rng))),
         _ => {
             let cell = rng.below(STATE_CELLS);
             (cell, if rng.percent(50) { cells[cell] ^ 1 << rng.below(64) } else { rng.next() })
