@@ -28,13 +28,14 @@ fn the_linker_agrees_with_itself() {
             assert!(summary.limits.coverage.count(column, number) > 0, "{column:?} was never answered {number}");
         }
     }
-    // They have every fault of a line at every place, and have looked for names at every place of a long table and in sections
-    // of one remainder.
+    // They have every fault of a line at every place, have looked for names at every place of a long table and in sections
+    // of one remainder, and have met names with $ and . wherever a name stands.
     assert_eq!(summary.limits.coverage.faults.missing(), Vec::<String>::new());
     assert_eq!(summary.limits.coverage.lookups.missing(), Vec::<String>::new());
+    assert_eq!(summary.limits.coverage.spelling.missing(), Vec::<String>::new());
 }
 
-/// A run that did not meet every fault of a line, or look for names at every place, says which it missed.
+/// A run that did not meet every fault of a line, look for names at every place, or meet those with $ and ., says which it missed.
 #[test]
 fn what_a_run_missed_is_told() {
     let summary = run(&Lent, &options(0, false)).unwrap_or_else(|found| panic!("{found:?}"));
@@ -51,6 +52,8 @@ fn what_a_run_missed_is_told() {
         "entry, 14: between of a long table",
         "a load from a table of so many symbols: 256",
         "a section with 64 and more of one remainder: wanted",
+        "a name with $: title",
+        "a name with . first: state memory",
     ] {
         assert!(missing.iter().any(|each| each == what), "{what}");
     }

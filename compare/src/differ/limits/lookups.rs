@@ -1,11 +1,9 @@
 //! Names in long tables and in sections of one remainder: what is found, what joins where, and what is refused.
 
-use super::super::case::Index;
 use super::super::names::{Alphabet, Order, SLOTS};
 use super::*;
-use crate::calls::{SymbolAnswer, UndefinedAnswer};
+use crate::calls::UndefinedAnswer;
 use crate::memory::{COUNT, NAMES};
-use crate::name::Name;
 
 /// The tables here have the names N0, N1 and so on, at least up to N149: the lowest of them, one in the middle, and the highest.
 /// N120 stands behind N12 and parts from it in the length alone.
@@ -58,25 +56,6 @@ fn mentioning(names: &[&str]) -> String {
 
 fn list(names: &[&str]) -> Vec<String> {
     names.iter().map(|name| name.to_string()).collect()
-}
-
-fn packed(name: &str) -> u64 {
-    Name::parse(name.as_bytes()).expect("a legal name").packed()
-}
-
-/// SYMBOLS at an index tells this.
-fn symbol(index: usize, name: &str, value: Option<u16>) -> Step {
-    let (value, defined) = (value.unwrap_or(0).into(), value.is_some().into());
-    shown(index, SymbolAnswer { name: packed(name), value, defined, ..SymbolAnswer::default() })
-}
-
-/// SYMBOLS tells that there are so many symbols: nothing stands at this index.
-fn symbols(count: usize) -> Step {
-    shown(count, SymbolAnswer { none: 1, ..SymbolAnswer::default() })
-}
-
-fn shown(index: usize, answer: SymbolAnswer) -> Step {
-    Step { symbol: Some(answer), ..call(Call::Symbols(Index::At(index as u64)), 0, 0) }
 }
 
 /// UNDEFINED at an index tells this.

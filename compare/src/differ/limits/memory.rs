@@ -1,9 +1,8 @@
 //! What is lent: lengths, indices, marks and soundness.
 
-use super::super::case::{Index, Origin};
+use super::super::case::Origin;
 use super::*;
 use crate::memory::*;
-use crate::name::Name;
 
 pub fn all() -> Vec<Case> {
     [lengths_and_indices(), marks(), soundness(), soundness_of_a_full_table()].concat()
@@ -86,7 +85,6 @@ fn marks() -> Vec<Case> {
 
 /// A table of 256 symbols, and its last one damaged.
 fn soundness_of_a_full_table() -> Vec<Case> {
-    let packed = |name: &str| Name::parse(name.as_bytes()).map_or(0, Name::packed);
     let mut state = fresh();
     state[COUNT] = 256;
     for (i, name) in names(0, 256).iter().enumerate() {
@@ -116,7 +114,6 @@ fn soundness_of_a_full_table() -> Vec<Case> {
 
 /// Single cells at and past what a sound state may hold. MEMORY tells whether the state is sound.
 fn soundness() -> Vec<Case> {
-    let packed = |name: &str| Name::parse(name.as_bytes()).expect("a legal name").packed();
     let mut state = fresh();
     state[COUNT] = 3;
     state[NEXT] = 2;

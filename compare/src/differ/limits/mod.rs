@@ -1,19 +1,22 @@
-//! Cases at each limit of document 01 and one past it, and each fault of a line. The answers stand beside them, taken from
+//! Cases at each limit of the papers and one past it, and each fault of a line. The answers stand beside them, taken from
 //! the papers and not from a linker.
 
 mod faults;
 mod lookups;
 mod memory;
+mod names;
 mod paper;
 mod placing;
 mod reading;
 
-use super::case::{Call, Case, Room, Step};
+use super::case::{Call, Case, Index, Room, Step};
+use crate::calls::SymbolAnswer;
 use crate::memory::fresh;
+use crate::name::Name;
 
 /// Every case.
 pub fn all() -> Vec<Case> {
-    [paper::all(), reading::all(), faults::all(), placing::all(), lookups::all(), memory::all()].concat()
+    [paper::all(), reading::all(), names::all(), faults::all(), placing::all(), lookups::all(), memory::all()].concat()
 }
 
 /// A module around some blocks.
@@ -86,6 +89,25 @@ fn memory(high: u64) -> Step {
 /// END with this HIGH in its record.
 fn end(high: u64) -> Step {
     Step { high: Some(high), ..call(Call::End(Room::FromImage(0)), 0, 0) }
+}
+
+fn packed(name: &str) -> u64 {
+    Name::parse(name.as_bytes()).expect("a legal name").packed()
+}
+
+/// SYMBOLS at an index tells this.
+fn symbol(index: usize, name: &str, value: Option<u16>) -> Step {
+    let (value, defined) = (value.unwrap_or(0).into(), value.is_some().into());
+    shown(index, SymbolAnswer { name: packed(name), value, defined, ..SymbolAnswer::default() })
+}
+
+/// SYMBOLS tells that there are so many symbols: nothing stands at this index.
+fn symbols(count: usize) -> Step {
+    shown(count, SymbolAnswer { none: 1, ..SymbolAnswer::default() })
+}
+
+fn shown(index: usize, answer: SymbolAnswer) -> Step {
+    Step { symbol: Some(answer), ..call(Call::Symbols(Index::At(index as u64)), 0, 0) }
 }
 
 /// A case from the fresh state.

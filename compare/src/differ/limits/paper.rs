@@ -1,7 +1,6 @@
 //! Document 01's runs P1 to P10, with the numbers that request 3/14 gives P6 and P10, and the paper's slips that lie close at hand. What the states and images come to is held to the
 //! paper by tests/document.rs, for the Rust linker that they are compared with here.
 
-use super::super::case::Index;
 use super::*;
 
 const MAIN: &str = "\

@@ -1,4 +1,4 @@
-//! What is read: bytes, lines, numbers, names, codes, types, lists, and files that end too soon.
+//! What is read: bytes, lines, numbers, codes, types, lists, and files that end too soon. Names are in `names`.
 
 use super::*;
 
@@ -6,9 +6,8 @@ pub fn all() -> Vec<Case> {
     [
         files_and_lines(),
         lines_without_a_field(),
-        numbers_and_names(),
+        numbers(),
         numbers_at_each_place(),
-        names_at_each_place(),
         codes_types_and_sizes(),
         lists(),
         files_that_end_too_soon(),
@@ -72,20 +71,12 @@ fn lines_without_a_field() -> Vec<Case> {
     cases
 }
 
-fn numbers_and_names() -> Vec<Case> {
+fn numbers() -> Vec<Case> {
     let mut cases = Vec::new();
     for (field, number) in [("177777", 0), ("200000", 18), ("000007", 0), ("0000007", 18), ("8", 18), ("7", 0)] {
         let file = module("A", &format!("0 1 0 ***CODE\n0 0 0 {field}\n"));
         cases.push(case(format!("the number {field}"), [load_or_refused(file, number, 4, 7)]));
     }
-    let legal = ["ABCDEF", "A", "Z", "A9"].map(|name| (name, 0));
-    let illegal = ["ABCDEFG", "0A", "@", "[", "A/", "A:"].map(|name| (name, 19));
-    for (name, number) in legal.into_iter().chain(illegal) {
-        let file = module("A", &format!("5 1 ***EXT\n{name}\n"));
-        cases.push(case(format!("the name {name}"), [load_or_refused(file, number, 4, 1)]));
-        cases.push(case(format!("forced name {name}"), [force(name, if number == 0 { 0 } else { 15 })]));
-    }
-    cases.push(case("forced names", [force("", 15), force("A", 0), force("A", 0), force("a", 15), force("A\0", 15)]));
     cases
 }
 
@@ -145,25 +136,6 @@ fn number_at(front: &str, line: &str, behind: &str, number: u64, at: u64) -> Vec
     };
     let tried = ["177777", "200000", "0000000", "8", "-1", "A"];
     tried.map(|text| case(format!("{text} in {line}"), [step(text)])).into()
-}
-
-/// A name of each kind at `@`: six characters are read, seven are not, nor is one that begins with a digit.
-fn names_at_each_place() -> Vec<Case> {
-    let mut cases = Vec::new();
-    for (file, line, column) in [
-        ("3 ***TITLE\n@\n1 ***END\nABCDEF\n", 2, 1),
-        ("3 ***TITLE\nABCDEF\n1 ***END\n@\n", 4, 1),
-        ("3 ***TITLE\nA\n4 1 ***ENTRY\n@ 0 0\n1 ***END\nA\n", 4, 1),
-        ("3 ***TITLE\nA\n13 1 ***AENTRY\n@ 0 0\n1 ***END\nA\n", 4, 1),
-        ("3 ***TITLE\nA\n5 1 ***EXT\n@\n1 ***END\nA\n", 4, 1),
-        ("3 ***TITLE\nA\n10 0 @ 0 ***DBDB\n1 ***END\nA\n", 3, 6),
-    ] {
-        for (name, number) in [("ABCDEF", 0), ("ABCDEFG", 19), ("1BCDEF", 19), ("ABCDEf", 19), ("ABC-EF", 19)] {
-            let label = format!("the name {name:?} in {:?}", file.lines().nth(line - 1).unwrap_or_default());
-            cases.push(case(label, [load_or_refused(file.replace('@', name), number, line as u64, column)]));
-        }
-    }
-    cases
 }
 
 fn codes_types_and_sizes() -> Vec<Case> {
