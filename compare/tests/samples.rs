@@ -89,12 +89,21 @@ fn adcsft_half_mended() {
     assert_eq!(load(&ADCSFT.replace("***PB", "***FPB")), bad(Reason::Fields, 24, 9));
 }
 
+fn mended_adcsft() -> String {
+    ADCSFT.replace("***PB", "***FPB").replace("0 0 0 0 0\n", "0 0 100005 0\n")
+}
+
 #[test]
 fn adcsft_as_mended() {
-    let mended = ADCSFT.replace("***PB", "***FPB").replace("0 0 0 0 0\n", "0 0 100005 0\n");
-    let linker = loaded(&mended);
+    let linker = loaded(&mended_adcsft());
     assert_eq!(symbols(&linker), [("ADCSFT".to_string(), Some(0))]);
     assert_eq!(linker.high(), 14);
     assert_eq!(image(&linker).len(), 170);
-    assert_eq!(load(&mended.replace("LOCAL", ".LOCAL")), bad(Reason::Symbol, 5, 6));
+}
+
+/// Request 4/14 allows a dot behind the first letter, and so not the manual's `.LOCAL`.
+#[test]
+fn adcsft_with_a_dot() {
+    assert_eq!(load(&mended_adcsft().replace("LOCAL", ".LOCAL")), bad(Reason::Symbol, 5, 6));
+    assert_eq!(load(&mended_adcsft().replace("LOCAL", "L.OCAL")), Ok(0));
 }
