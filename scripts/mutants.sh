@@ -176,5 +176,36 @@ mutant "fault: an illegal byte in a field that is not read told at its start" fa
 mutant "fault: no broken mark for 17 to 21" answer.rs 's/ || number >= Reason::Fields as u64//'
 mutant "fault: no broken mark for 21" answer.rs 's/number >= Reason::Fields as u64/(17..21).contains(\&number)/'
 
+# Request 4/14. 36 and 46 are $ and ., and 35, 37, 45 and 47 the bytes beside them.
+mutant 'alphabet: $ is not taken' name.rs 's/ | b.\$. | b/ | b/'
+mutant 'alphabet: . is not taken' name.rs 's/ | b.\..)$/)/'
+mutant 'alphabet: $ is taken as a first character' name.rs 's/!text.first()?.is_ascii_uppercase()/!(text.first()?.is_ascii_uppercase() || text[0] == 36)/'
+mutant 'alphabet: . is taken as a first character' name.rs 's/!text.first()?.is_ascii_uppercase()/!(text.first()?.is_ascii_uppercase() || text[0] == 46)/'
+mutant 'alphabet: #, below $, is taken' name.rs 's/matches!(byte, /&35 | /'
+mutant 'alphabet: %, above $, is taken' name.rs 's/matches!(byte, /&37 | /'
+mutant 'alphabet: -, below ., is taken' name.rs 's/matches!(byte, /&45 | /'
+mutant 'alphabet: /, above ., is taken' name.rs 's/matches!(byte, /&47 | /'
+mutant "alphabet: small letters are taken" name.rs 's/matches!(byte, /&97..=122 | /'
+mutant 'alphabet: $ in the second place alone' name.rs 's/text.iter().all(|&b| may_follow(b))/text.iter().enumerate().all(|(at, \&b)| may_follow(b) \&\& (b != 36 || at == 1))/'
+mutant 'alphabet: . in the second place alone' name.rs 's/text.iter().all(|&b| may_follow(b))/text.iter().enumerate().all(|(at, \&b)| may_follow(b) \&\& (b != 46 || at == 1))/'
+mutant 'alphabet: $ not in the sixth place' name.rs 's/text.iter().all(|&b| may_follow(b))/text.iter().enumerate().all(|(at, \&b)| may_follow(b) \&\& (b != 36 || at < 5))/'
+mutant 'alphabet: . not in the sixth place' name.rs 's/text.iter().all(|&b| may_follow(b))/text.iter().enumerate().all(|(at, \&b)| may_follow(b) \&\& (b != 46 || at < 5))/'
+mutant "alphabet: FORCE by the old one alone" linker.rs 's/Name::parse(name).ok_or/Name::parse(name).filter(|_| name.iter().all(u8::is_ascii_alphanumeric)).ok_or/'
+mutant "alphabet: soundness by the old one alone" name.rs 's/Name::parse(&text\[..length\])/&.filter(|_| !text.iter().any(|b| matches!(b, 36 | 46)))/'
+mutant 'alphabet: soundness takes $ as a first character' name.rs 's/Name::parse(&text\[..length\])/&.or_else(|| if text[0] == 36 { Name::from_packed(cell ^ (36 ^ 65) << 40).map(|_| Name(cell)) } else { None })/'
+mutant 'alphabet: soundness takes . as a first character' name.rs 's/Name::parse(&text\[..length\])/&.or_else(|| if text[0] == 46 { Name::from_packed(cell ^ (46 ^ 65) << 40).map(|_| Name(cell)) } else { None })/'
+beside='&.or_else(|| { let at = text.iter().position(|b| *b == NEAR)?; Name::from_packed(cell ^ (NEAR ^ ADDED) << (40 - 8 * at))?; Some(Name(cell)) })'
+mutant 'alphabet: soundness takes #' name.rs "s/Name::parse(&text\[..length\])/$beside/; s/NEAR/35/g; s/ADDED/36/"
+mutant 'alphabet: soundness takes %' name.rs "s/Name::parse(&text\[..length\])/$beside/; s/NEAR/37/g; s/ADDED/36/"
+mutant 'alphabet: soundness takes -' name.rs "s/Name::parse(&text\[..length\])/$beside/; s/NEAR/45/g; s/ADDED/46/"
+mutant 'alphabet: soundness takes /' name.rs "s/Name::parse(&text\[..length\])/$beside/; s/NEAR/47/g; s/ADDED/46/"
+# A line that is bad by the old alphabet alone has no fault by the new one, so 19 is told at the field with the first $ or .
+old='packed().to_be_bytes().iter().all(|b| !matches!(b, 36 | 46))'
+told='s/fault::told(text, kind).expect(.*);/fault::told(text, kind).unwrap_or_else(|| fault::Fault { reason: Reason::Symbol, column: text.split(|b| matches!(b, 36 | 46)).next().and_then(|front| front.iter().rposition(|b| *b == 32)).map_or(1, |at| at + 2) });/'
+mutant "alphabet: titles by the old one alone" reader.rs "$told; s/let title = self.record(Kind::Name, parse_name)?;/& if !title.$old { return Err(Stop::Bad(Kind::Name)); }/"
+mutant "alphabet: externals by the old one alone" reader.rs "$told; s/let name = self.record(Kind::Name, parse_name)?;/& if !name.$old { return Err(Stop::Bad(Kind::Name)); }/"
+mutant "alphabet: entries by the old one alone" reader.rs "$told; /fn parse_entry/,/^}/s/fields.name()?/fields.name().filter(|name| name.$old)?/"
+mutant "alphabet: DBDB's symbol by the old one alone" reader.rs "$told; s/let _symbol = fields.name()?;/let _symbol = fields.name().filter(|name| name.$old)?;/"
+
 echo "$tried mutants, $missed not noticed"
 [ "$missed" -eq 0 ]
