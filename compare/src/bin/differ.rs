@@ -4,8 +4,8 @@
 //!     differ --limits
 //!
 //! A failure names its case; `differ 1 SEED --first N --no-limits` plays that one alone. With `--reach-all` it is a failure
-//! too if the random cases miss an answer, a fault of a line, a name or a number of rounds. `--limits` lists the cases at the limits and
-//! what the papers answer them with.
+//! too if the random cases miss an answer, a fault of a line, a name or a number of rounds. `--limits` lists the cases at the
+//! limits and what the papers answer them with.
 
 use std::process::ExitCode;
 use std::time::{Duration, Instant};

@@ -136,8 +136,8 @@ pub fn close_names(count: usize, rng: &mut Rng) -> Vec<String> {
     names
 }
 
-/// A legal name with one thing wrong that lies close to what request 4/14 allows: an added character in front, a byte beside
-/// one of them or a small letter behind the first character, or a seventh character.
+/// A legal name with one thing wrong that lies close to what request 4/14 allows: an added character for the first one, a byte
+/// beside one of them or a small letter behind it, or a seventh character.
 pub fn misspelled(name: &[u8], rng: &mut Rng) -> Vec<u8> {
     let mut name = name.to_vec();
     match rng.below(4) {
