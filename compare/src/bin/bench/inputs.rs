@@ -189,7 +189,7 @@ fn entries_of_one_remainder(divisor: usize) -> Input {
 /// The last title has a character too many, which no name has.
 fn refused_by_reading(divisor: usize) -> Input {
     let mut file = modules_file(LONGEST_FILE / divisor - 8).trim_end().to_string();
-    file = padded(file + ".", LONGEST_FILE / divisor);
+    file = padded(file + "/", LONGEST_FILE / divisor);
     Input { size: format!("{} bytes", file.len()), state: fresh(), job: Job::Load(file.into()), expected: 19 }
 }
 
