@@ -2,15 +2,15 @@
 -- Assumes nothing.
 use Prim.Native.Nat.{ℕ, _+_, _≤_, _<_}
 use native.Mathlib.Omega.{arith}
-use mathlib.Core.Bool.{true, false}
+use mathlib.Core.Bool.{true, false, or-false}
 use mathlib.Core.List.{List}
 use mathlib.Core.Option.{none, some}
 use mathlib.Core.Path.{_≡_, sym, _∙_}
 use mathlib.Core.Logic.{_≢_}
-use lib.Dec.{eqb}
-use borrow.Author.Tests.{eq-eqb, ne-eqb}
+use lib.Dec.{eqb, leb}
+use borrow.Author.Tests.{eq-eqb, ne-eqb, lt-leb, le-leb}
 use lib.ListN.{length, drop, getD}
-use Rattle.rules.specs.Text.{all, isLetter, isDigit, isNameCharacter, isName, isNameOver, packName, nameOf, nameOver}
+use Rattle.rules.specs.Text.{all, isLetter, isNameCharacter, isName, isNameOver, packName, nameOf, nameOver}
 use Rattle.text.proofs.ScanLaws.{all-step, all-stop, all-end, between-yes, and-false, too-short, too-long}
 
 -- ---- one character
@@ -20,17 +20,19 @@ module _ (b : ℕ) where
   unfolding isNameCharacter
   letter e = simp e
 
-  pub digit : isLetter b ≡ false → isDigit b ≡ true → isNameCharacter b ≡ true
+  -- below the digits
+  pub dollar : b < 48 → b ≡ 36 → eqb b 36 ≡ isNameCharacter b
   unfolding isNameCharacter
-  digit e d = simp (e, d)
+  dollar l h = simp (lt-leb 65 b (omega arith), lt-leb 48 b l, eq-eqb b 36 h)
 
-  pub dollar : isLetter b ≡ false → isDigit b ≡ false → b ≡ 36 → eqb b 36 ≡ isNameCharacter b
+  pub dot : b < 48 → b ≢ 36 → eqb b 46 ≡ isNameCharacter b
   unfolding isNameCharacter
-  dollar e d h = simp (e, d, eq-eqb b 36 h)
+  dot l h = simp (lt-leb 65 b (omega arith), lt-leb 48 b l, ne-eqb b 36 h)
 
-  pub dot : isLetter b ≡ false → isDigit b ≡ false → b ≢ 36 → eqb b 46 ≡ isNameCharacter b
+  -- from them on, and no letter
+  pub digit : 48 ≤ b → isLetter b ≡ false → leb b 57 ≡ isNameCharacter b
   unfolding isNameCharacter
-  dot e d h = simp (e, d, ne-eqb b 36 h)
+  digit l e = simp (e, le-leb 48 b l, ne-eqb b 36 (omega arith), ne-eqb b 46 (omega arith), or-false)
 
 -- ---- which answer
 

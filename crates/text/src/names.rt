@@ -26,13 +26,10 @@ fn is_letter(byte: u8) -> bool
 pub fn is_name_character(byte: u8) -> bool
     ensures { λ r. ⌜ r ≡ isNameCharacter byte ⌝ }
 {
-    if is_letter(byte) {
-        return true;
+    if byte < b'0' {
+        return byte == b'$' || byte == b'.';
     }
-    if is_between(48, 57, byte) {
-        return true;
-    }
-    byte == b'$' || byte == b'.'
+    is_letter(byte) || byte <= b'9'
 }
 
 pub fn is_name(field: &[u8]) -> bool
