@@ -108,7 +108,8 @@ impl Linker {
         done(a.number, a.line, a.rounds).map_err(|refused| Refused { column: a.column, ..refused })
     }
 
-    /// Names an undefined symbol, so that a library's module is taken for it.
+    /// Names an undefined symbol, so that a library's module is taken for it. A name is 1 to 6 of A to Z, 0 to 9, `$` and `.`, the first a
+    /// letter.
     pub fn force(&mut self, name: &str) -> Result<(), Refused> {
         let a = unsafe { calls::lnk100_force(self.state.as_mut_ptr(), self.state.len(), name.as_ptr(), name.len()) };
         done(a.number, a.line, ())

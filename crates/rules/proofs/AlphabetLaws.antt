@@ -144,10 +144,11 @@ taken-grows r a b (inr (c, e)) = go (r .fault)
     go Complete = inr (r .line, c, ap (λ (x : Step). stepped r x .fault) e)
     go (Stopped k n d) = inl refl
 
--- a file that is read to the same; or stops for a name
+-- a file that is read alike over two alphabets
 abbrev pub ReadAlike : Alphabet → Alphabet → List ℕ → Type 0
 ReadAlike one other file = (readingOver one file ≡ readingOver other file) × (itemsOver one file ≡ itemsOver other file)
 
+-- or stops for a name over the first
 abbrev pub FileGrows : Alphabet → Alphabet → List ℕ → Type 0
 FileGrows small large file =
     ReadAlike small large file ⊎ ((n : ℕ) × (c : ℕ) × (readingOver small file ≡ Stopped SYMBOL n c))

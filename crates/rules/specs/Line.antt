@@ -117,6 +117,7 @@ said answer (fits vs) = answer vs
 said answer (misfit f) = Bad f
 
 module _ (alphabet : Alphabet) where
+  -- a field, held to the kind at its place
   unfoldable pub readFieldOver : Kind → List ℕ → Held
   readFieldOver (Number low high k) f = inBounds low high k (held BadNumber (numberOf f))
   readFieldOver Name f = held BadName (nameOver alphabet f)

@@ -114,7 +114,7 @@ pub calls-but-names :
     → RunOver isLetterOrDigit cells cs rs last → Every NamesTaken rs → Run cells cs qs end → (qs ≡ rs) × (end ≡ last)
 calls-but-names {cs} was taken is = same-run refl (alike-same cs) is (run-stays was taken)
 
--- So have calls in a row that were all accepted: "States and files accepted before stay accepted with the same answers."
+-- what is accepted refuses no name
 accepted-taken : (r : Reply) → numberIn r ≡ DONE → NamesTaken r
 accepted-taken r e (inl k) = let z : _≡_ {A = ℕ} 0 2 = sym e ∙ k in omega arith
 accepted-taken r e (inr (inl k)) = let z : _≡_ {A = ℕ} 0 15 = sym e ∙ k in omega arith
@@ -127,6 +127,7 @@ all-taken : (rs : List Reply) → Every Accepted rs → Every NamesTaken rs
 all-taken [] h = tt
 all-taken (r ∷ rs) h = (accepted-taken r (h .0), all-taken rs (h .1))
 
+-- So have calls in a row that were all accepted: "States and files accepted before stay accepted with the same answers."
 pub accepted-before :
     {cells last end : List ℕ} {cs : List Call} {rs qs : List Reply}
     → RunOver isLetterOrDigit cells cs rs last → Every Accepted rs → Run cells cs qs end → (qs ≡ rs) × (end ≡ last)
