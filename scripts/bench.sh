@@ -2,6 +2,7 @@
 # Times the verified library (rt staticlib linker) beside the Rust linker of compare/ and the floor.
 #
 #   scripts/bench.sh [RUNS]
+#   scripts/bench.sh --feeds [RUNS [ROW]]    the table of loads in pieces alone, or one of its rows, which count from 0
 #
 # The functions of the archive are put on the lines of the cache first, by objcopy. Else the linker puts them at any sixteenth byte, and
 # where a short loop of the reading comes to lie across a line it takes longer: 6 to 14 % of a LOAD, by where the code in front of it

@@ -4,6 +4,7 @@
 #
 #   scripts/mutants.sh [WORD]                only mutants whose label has the word
 #   scripts/mutants.sh WORD --no-limits      the same by the random cases alone; any arguments of differ
+#   scripts/mutants.sh WORD --each           by the cases at the limits alone, and by the random cases alone
 set -eu
 cd "$(dirname "$0")/../compare"
 here=$PWD
@@ -28,9 +29,33 @@ fresh_copy() {
   rm -rf "$copy" "$here/target/mutants/include"
   mkdir -p "$copy/stand-in"
   cp -r Cargo.toml build.rs src "$copy"
+  # the linker alone, which is sooner built
+  rm -r "$copy/src/differ" "$copy/src/bin"
+  sed -i '/^pub mod differ;/d' "$copy/src/lib.rs"
   cp -r stand-in/Cargo.toml stand-in/src "$copy/stand-in"
   # where the copy's build.rs looks for the header
   [ ! -d ../include ] || cp -r ../include "$here/target/mutants/include"
+}
+
+# The first failure that differ tells with these arguments; nothing where it agrees.
+failure() {
+  local said
+  if ! said=$(differ 20000 1 "$@"); then
+    printf '%s\n' "$said" | grep -m 1 '^FAILED' || echo 'it did not come back'
+  fi
+}
+
+# By the limits alone and by the random cases alone; both must notice it.
+mutant_by_each() { # label
+  local limits random
+  limits=$(failure --seconds 0)
+  random=$(failure --no-limits)
+  if [ -n "$limits" ] && [ -n "$random" ]; then
+    echo "noticed      $1: $limits; $random"
+  else
+    echo "NOT NOTICED  $1: ${limits:-not by the limits}; ${random:-not by the random cases}"
+    missed=$((missed + 1))
+  fi
 }
 
 missed=0
@@ -46,11 +71,13 @@ mutant() { # label, file under src/, sed expression
   elif ! build_library; then
     echo "NO BUILD     $1"
     missed=$((missed + 1))
-  elif said=$(differ 20000 1 "${more[@]}"); then
+  elif [ "${more[*]}" = --each ]; then
+    mutant_by_each "$1"
+  elif said=$(failure "${more[@]}") && [ -n "$said" ]; then
+    echo "noticed      $1: $said"
+  else
     echo "NOT NOTICED  $1"
     missed=$((missed + 1))
-  else
-    echo "noticed      $1: $(printf '%s\n' "$said" | grep -m 1 '^FAILED' || echo 'it did not come back')"
   fi
 }
 
@@ -173,8 +200,8 @@ mutant "fault: an unknown code told as 6" fault.rs 's/return vec!\[Fault { reaso
 mutant "fault: a name told as 18" fault.rs 's/then_some(Reason::Symbol)/then_some(Reason::Number)/'
 mutant "fault: an asterisk with more behind it begins a relocated record" fault.rs 's/field(0) == Some(b"\*")/field(0).is_some_and(|field| field.starts_with(b"*"))/'
 mutant "fault: an illegal byte in a field that is not read told at its start" fault.rs 's/Due::Anything => None,/Due::Anything => field.iter().any(|b| !text::is_legal_byte(*b)).then_some(Reason::Number),/'
-mutant "fault: no broken mark for 17 to 21" answer.rs 's/ || number >= Reason::Fields as u64//'
-mutant "fault: no broken mark for 21" answer.rs 's/number >= Reason::Fields as u64/(17..21).contains(\&number)/'
+mutant "fault: no broken mark for 17 to 21" answer.rs 's/ || parted_from_6.contains(&number)//; s/let parted_from_6 = .*//'
+mutant "fault: no broken mark for 21" answer.rs 's/Reason::Fields as u64..=Reason::Type as u64/Reason::Fields as u64..=Reason::Type as u64 - 1/'
 
 # Request 4/14. 36 and 46 are $ and ., and 35, 37, 45 and 47 the bytes beside them.
 mutant 'alphabet: $ is not taken' name.rs 's/ | b.\$. | b/ | b/'
@@ -206,6 +233,70 @@ mutant "alphabet: titles by the old one alone" reader.rs "$told; s/let title = s
 mutant "alphabet: externals by the old one alone" reader.rs "$told; s/let name = self.record(Kind::Name, parse_name)?;/& if !name.$old { return Err(Stop::Bad(Kind::Name)); }/"
 mutant "alphabet: entries by the old one alone" reader.rs "$told; /fn parse_entry/,/^}/s/fields.name()?/fields.name().filter(|name| name.$old)?/"
 mutant "alphabet: DBDB's symbol by the old one alone" reader.rs "$told; s/let _symbol = fields.name()?;/let _symbol = fields.name().filter(|name| name.$old)?;/"
+
+# Request 5/14. 10 is LF.
+tells='Ok(fault(bytes).filter(|fault| fault.line > before))'
+mutant "feed: advice told again by every later piece with an LF" feed.rs "s/$tells/{ let _ = before; Ok(fault(bytes)) }/"
+mutant "feed: advice told again by the next piece with an LF" feed.rs 's/fault.line > before/fault.line >= before/'
+mutant "feed: advice told again by an empty piece" feed.rs 's/if !piece.contains(/if !piece.is_empty() \&\& !piece.contains(/; s/fault.line > before/fault.line > before || piece.is_empty()/'
+mutant "feed: a second fault is told too" feed.rs "s/$tells/Ok(fault(bytes).and_then(|first| if first.line > before { Some(first) } else { fault(piece).map(|second| Refusal { line: second.line + before, ..second }) }))/"
+mutant "feed: advice for a line without LF" feed.rs 's/let lines = &bytes\[..end\];/let lines = bytes;/; s/fault.line <= line_ends(lines)/fault.line <= line_ends(lines) + u64::from(end < lines.len())/'
+mutant "feed: advice for a line without LF, by a piece without any" feed.rs 's/if !piece.contains(.*{/if piece.is_empty() {/; s/let lines = &bytes\[..end\];/let lines = bytes;/; s/fault.line <= line_ends(lines)/fault.line <= line_ends(lines) + u64::from(end < lines.len())/'
+mutant "feed: advice for a file that ends too soon" feed.rs 's/\.err()\.filter(|fault| fault.line <= line_ends(lines))/.err()/'
+mutant "feed: no advice where the LF is first in its piece" feed.rs 's/let before = line_ends(bytes);/let before = line_ends(bytes) + u64::from(piece.first() == Some(\&10));/'
+mutant "feed: no advice for 7 and 8" feed.rs 's/fault.line > before/fault.line > before \&\& fault.column > 0/'
+mutant "feed: advice without its column" lent.rs 's/column: fault.column.into() }/column: 0 }/'
+mutant "feed: the line of an advice counted from its piece" feed.rs "s/$tells/Ok(fault(bytes).filter(|fault| fault.line > before).map(|fault| Refusal { line: fault.line - before, ..fault }))/"
+mutant "feed: advice by a piece that goes over the total" feed.rs 's/\*self = Feed::TooLong;/let told = fault(bytes).filter(|fault| fault.line > before); &  if told.is_some() { return Ok(told); }/'
+mutant "feed: no advice at a total of 65536" feed.rs 's/if !piece.contains(/if bytes.len() == LONGEST_FILE || !piece.contains(/'
+mutant "feed: a refused piece advises" lent.rs 's/Err(refusal) => FeedAnswer { number: refusal.number(), /&advice: refusal.number(), /'
+mutant "feed: a total of 65536 is too many" feed.rs 's/if bytes.len() > LONGEST_FILE {/if bytes.len() >= LONGEST_FILE {/'
+mutant "feed: a total of 65537 is kept" feed.rs 's/if bytes.len() > LONGEST_FILE {/if bytes.len() > LONGEST_FILE + 1 {/'
+mutant "feed: the total wraps" feed.rs 's/\*self = Feed::TooLong;/bytes.drain(..LONGEST_FILE);/'
+mutant "feed: the total goes on past 65537" lent.rs 's/match feed::change(feed, |feed| feed.feed(piece)) {/match feed::change(feed, |feed| feed.feed(piece)).inspect(|_| if feed[0] == 65_538 { feed[0] += piece.len() as u64 }) {/'
+mutant "feed: the bytes of too many are kept" feed.rs 's/cells.copy_from_slice(&encode(&feed));/let new = encode(\&feed); if feed == Feed::TooLong { cells[0] = new[0]; } else { cells.copy_from_slice(\&new); }/'
+mutant "feed: the first byte stands highest" feed.rs 's/le_bytes/be_bytes/g'
+mutant "feed: a CR at the end of a piece is dropped" feed.rs 's/bytes.extend_from_slice(piece);/bytes.extend_from_slice(if piece.last() == Some(\&13) { \&piece[..piece.len() - 1] } else { piece });/'
+mutant "feed: a piece of 513 is taken" feed.rs 's/LONGEST_PIECE: usize = 512/LONGEST_PIECE: usize = 513/'
+mutant "feed: a piece of 512 is refused" feed.rs 's/LONGEST_PIECE: usize = 512/LONGEST_PIECE: usize = 511/'
+mutant "feed: a refused piece is kept" feed.rs 's/if piece.len() > LONGEST_PIECE || /if let (Feed::Open(bytes), true) = (\&mut *self, piece.len() > LONGEST_PIECE) { bytes.extend_from_slice(piece); } &/; s/let answer = call(&mut feed)?;/let answer = call(\&mut feed);/; s/^    Ok(answer)$/    answer/'
+mutant "feed: a second open starts anew" feed.rs 's/if \*self != Feed::Idle {/if false {/'
+mutant "feed: an open behind too many starts anew" feed.rs 's/if \*self != Feed::Idle {/if let Feed::Open(_) = self {/'
+mutant "feed: a piece with none open opens" feed.rs 's/if piece.len() > LONGEST_PIECE || \*self == Feed::Idle {/if *self == Feed::Idle { *self = Feed::Open(Vec::new()); } if piece.len() > LONGEST_PIECE {/'
+mutant "feed: an empty piece with none open is DONE" feed.rs 's/|| \*self == Feed::Idle {/|| *self == Feed::Idle \&\& !piece.is_empty() {/'
+mutant "feed: a close with none open loads nothing" lent.rs 's/match feed::change(feed, Feed::take) {/match feed::change(feed, |feed| if *feed == Feed::Idle { Ok(Vec::new()) } else { feed.take() }) {/'
+mutant "feed: a drop with none open is DONE" lent.rs 's/feed::change(feed, Feed::take).map(drop)/&.or_else(|refusal| if refusal.reason == Reason::Feed { Ok(()) } else { Err(refusal) })/'
+atomic=std::sync::atomic
+mutant "feed: a close forgets the last piece" feed.rs "s/^const BYTES_IN_CELL.*/& static LAST: $atomic::AtomicUsize = $atomic::AtomicUsize::new(0);/; s/bytes.extend_from_slice(piece);/& LAST.store(piece.len(), $atomic::Ordering::Relaxed);/; s/Feed::Open(bytes) => Ok(bytes),/Feed::Open(bytes) => Ok(bytes[..bytes.len().saturating_sub(LAST.load($atomic::Ordering::Relaxed))].to_vec()),/"
+mutant "feed: a close forgets a last line without LF" feed.rs 's/Feed::Open(bytes) => Ok(bytes),/Feed::Open(bytes) => Ok(bytes[..bytes.iter().rposition(|byte| *byte == 10).map_or(0, |at| at + 1)].to_vec()),/'
+mutant "feed: a close leaves an open feed" lent.rs 's/Ok(file) => self.load(state, work, &file),/Ok(file) => { feed[0] = 1; self.load(state, work, \&file) }/'
+kept='Ok(file) => { let answer = self.load(state, work, \&file); if answer.number == NUMBER { feed.copy_from_slice(\&feed::encode(\&if file.len() > 65_536 { Feed::TooLong } else { Feed::Open(file) })); } answer }'
+for number in 1 2 3 4 5 20; do
+  mutant "feed: a close refused by $number leaves the feed open" lent.rs "s/Ok(file) => self.load(state, work, &file),/${kept/NUMBER/$number}/"
+done
+mutant "feed: 5 ahead of the state's checks" lent.rs 's/Ok(file) => self.load(state, work, &file),/Ok(file) if file.len() > 65_536 => { clear(work); refused_load(Reason::TooLong.into()) } &/'
+mutant "feed: a drop leaves the memory" lent.rs 's/feed::change(feed, Feed::take).map(drop)/feed::change(\&mut feed.to_vec(), Feed::take).map(drop)/'
+mutant "feed: a drop leaves the bytes" lent.rs 's/call_answer(feed::change(feed, Feed::take).map(drop))/{ let kept = feed.to_vec(); let answer = call_answer(feed::change(feed, Feed::take).map(drop)); if answer.number == 0 { feed[1..].copy_from_slice(\&kept[1..]); } answer }/'
+mutant "feed: a drop leaves an open feed" lent.rs 's/call_answer(feed::change(feed, Feed::take).map(drop))/{ let answer = call_answer(feed::change(feed, Feed::take).map(drop)); if answer.number == 0 { feed[0] = 1; } answer }/'
+mutant "feed: work memory kept by a refused close" lent.rs 's/^                clear(work);/                clear(\&mut []);/'
+mutant "feed: work memory of another length cleared by a refused close" lent.rs 's/if work.len() == WORK_CELLS {/if !work.is_empty() {/'
+mutant "feed: a close refused by the feed breaks" lent.rs 's/^                clear(work);/& if state.len() == STATE_CELLS { state[MARK] = BROKEN; }/'
+mutant "feed: 23 behind the state's 1 and 2" lent.rs 's/match feed::change(feed, Feed::take) {/match feed::change(feed, |feed| { if *feed == Feed::Idle { decode(state)?; } feed.take() }) {/'
+mutant "feed: 23 behind the state's 3 and 4" lent.rs 's/match feed::change(feed, Feed::take) {/match feed::change(feed, |feed| { if let (Feed::Idle, Ok(mut linker)) = (\&*feed, decode(state)) { linker.base(0)?; } feed.take() }) {/'
+mutant "feed: the state's 1 ahead of the feed's 2" lent.rs 's/match feed::change(feed, Feed::take) {/if feed.len() == feed::FEED_CELLS \&\& feed::decode(feed).is_none() \&\& test_length(state).is_err() { clear(work); return refused_load(Reason::Buffer.into()); } &/'
+mutant "feed: another length is 2" feed.rs 's/Err(Reason::Buffer.into())/Err(Reason::Damaged.into())/'
+mutant "feed: 2 ahead of 1" feed.rs 's/if cells.len() != FEED_CELLS {/& let mut all = cells.to_vec(); all.resize(FEED_CELLS, 0); decode(\&all).ok_or(Reason::Damaged)?;/'
+mutant "feed: more cells are accepted" feed.rs 's/if cells.len() != FEED_CELLS {/if cells.len() < FEED_CELLS {/; s/let mut feed = decode(cells)/let cells = \&mut cells[..FEED_CELLS]; let mut feed = decode(cells)/'
+mutant "feed: 23 for a longer piece ahead of 2" lent.rs 's/match feed::change(feed, |feed| feed.feed(piece)) {/if feed.len() == feed::FEED_CELLS \&\& piece.len() > feed::LONGEST_PIECE { return FeedAnswer { number: 23, ..FeedAnswer::default() }; } &/'
+mutant "feed: 23 for a longer piece ahead of 1" lent.rs 's/match feed::change(feed, |feed| feed.feed(piece)) {/if feed.len() != feed::FEED_CELLS \&\& piece.len() > feed::LONGEST_PIECE { return FeedAnswer { number: 23, ..FeedAnswer::default() }; } &/'
+sound='{ let form = encode(\&feed); let end = match \&feed { Feed::Open(bytes) => OPEN, Feed::Idle => IDLE, Feed::TooLong => LONG }; (form[..end] == cells[..end]).then_some(feed) }'
+accepts() { printf %s "s/(encode(&feed) == cells).then_some(feed)/$sound/; s/OPEN/$1/; s/\bIDLE, Feed/$2, Feed/; s/LONG }; (form/$3 }; (form/"; }
+mutant "feed: cells behind the total are not tested" feed.rs "$(accepts '1 + bytes.len().div_ceil(8)' FEED_CELLS FEED_CELLS)"
+mutant "feed: the total's cell and those behind it are not tested" feed.rs "$(accepts '1 + bytes.len() \/ 8' FEED_CELLS FEED_CELLS)"
+mutant "feed: bytes where none is open are not tested" feed.rs "$(accepts FEED_CELLS 1 FEED_CELLS)"
+mutant "feed: bytes of too many are not tested" feed.rs "$(accepts FEED_CELLS FEED_CELLS 1)"
+mutant "feed: the last cell is not tested" feed.rs "$(accepts 'FEED_CELLS - 1' 'FEED_CELLS - 1' 'FEED_CELLS - 1')"
+mutant "feed: a first cell over 65538 is sound" feed.rs 's/TOO_LONG => Feed::TooLong,/TOO_LONG.. => Feed::TooLong,/; s/(encode(&feed) == cells)/(encode(\&feed)[1..] == cells[1..])/'
 
 echo "$tried mutants, $missed not noticed"
 [ "$missed" -eq 0 ]

@@ -25,6 +25,8 @@ pub enum Reason {
     Symbol = 19,
     Marker = 20,
     Type = 21,
+    /// Request 5/14: a piece that is too long, or a call that does not fit what is open.
+    Feed = 23,
 }
 
 /// A refused call: the reason, and the line and the column of the file that it is told at (0 where none is named).
@@ -48,7 +50,9 @@ impl Refusal {
     /// Whether a LOAD refused like this was refused for what is in its file, and so sets the broken mark.
     pub fn breaks(self) -> bool {
         let number = self.number();
-        (Reason::Line as u64..=Reason::Table as u64).contains(&number) || number >= Reason::Fields as u64
+        let reading_and_walk = Reason::Line as u64..=Reason::Table as u64;
+        let parted_from_6 = Reason::Fields as u64..=Reason::Type as u64;
+        reading_and_walk.contains(&number) || parted_from_6.contains(&number)
     }
 }
 

@@ -1,6 +1,6 @@
 //! The public calls on lent memory, as the C interface has them.
 
-/// An answer of LOAD. In every answer a refusal has 0 in each field but `number`, `line` and LOAD's `column`.
+/// An answer of LOAD or CLOSE. In every answer a refusal has 0 in each field but `number`, `line` and their `column`.
 #[repr(C)]
 #[derive(Clone, Copy, Debug, Default, PartialEq, Eq)]
 pub struct LoadAnswer {
@@ -11,12 +11,23 @@ pub struct LoadAnswer {
     pub rounds: u64,
 }
 
-/// An answer of FORCE, BASE or RESET.
+/// An answer of FORCE, BASE, RESET, OPEN or DROP.
 #[repr(C)]
 #[derive(Clone, Copy, Debug, Default, PartialEq, Eq)]
 pub struct CallAnswer {
     pub number: u64,
     pub line: u64,
+}
+
+/// An answer of FEED. `advice` is 0, or the number that the close will give if it comes to the reading; `line` and `column` are
+/// then those of the fault. A refusal advises nothing.
+#[repr(C)]
+#[derive(Clone, Copy, Debug, Default, PartialEq, Eq)]
+pub struct FeedAnswer {
+    pub number: u64,
+    pub advice: u64,
+    pub line: u64,
+    pub column: u64,
 }
 
 #[repr(C)]
@@ -69,4 +80,8 @@ pub trait Calls {
     fn symbols(&self, state: &[u64], index: u64) -> SymbolAnswer;
     fn undefined(&self, state: &[u64], index: u64) -> UndefinedAnswer;
     fn end(&self, state: &mut [u64], out: &mut [u8]) -> EndAnswer;
+    fn open(&self, feed: &mut [u64]) -> CallAnswer;
+    fn feed(&self, feed: &mut [u64], piece: &[u8]) -> FeedAnswer;
+    fn close(&self, feed: &mut [u64], state: &mut [u64], work: &mut [u64]) -> LoadAnswer;
+    fn drop(&self, feed: &mut [u64]) -> CallAnswer;
 }

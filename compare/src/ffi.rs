@@ -1,6 +1,6 @@
 //! The verified library through its C interface, include/lnk100.h. The only unsafe code of this project.
 
-use crate::calls::{CallAnswer, Calls, EndAnswer, LoadAnswer, MemoryAnswer, SymbolAnswer, UndefinedAnswer};
+use crate::calls::*;
 
 // Nothing checks these against the header: they are kept in its order and read side by side.
 extern "C" {
@@ -19,6 +19,17 @@ extern "C" {
     fn lnk100_symbols(state: *const u64, state_len: usize, index: u64) -> SymbolAnswer;
     fn lnk100_undefined(state: *const u64, state_len: usize, index: u64) -> UndefinedAnswer;
     fn lnk100_end(state: *mut u64, state_len: usize, out: *mut u8, out_len: usize) -> EndAnswer;
+    fn lnk100_open(feed: *mut u64, feed_len: usize) -> CallAnswer;
+    fn lnk100_feed(feed: *mut u64, feed_len: usize, piece: *const u8, piece_len: usize) -> FeedAnswer;
+    fn lnk100_close(
+        feed: *mut u64,
+        feed_len: usize,
+        state: *mut u64,
+        state_len: usize,
+        work: *mut u64,
+        work_len: usize,
+    ) -> LoadAnswer;
+    fn lnk100_drop(feed: *mut u64, feed_len: usize) -> CallAnswer;
 }
 
 /// The archive that was linked, so that a report can say whose answers it shows.
@@ -63,5 +74,23 @@ impl Calls for Verified {
 
     fn end(&self, state: &mut [u64], out: &mut [u8]) -> EndAnswer {
         unsafe { lnk100_end(state.as_mut_ptr(), state.len(), out.as_mut_ptr(), out.len()) }
+    }
+
+    fn open(&self, feed: &mut [u64]) -> CallAnswer {
+        unsafe { lnk100_open(feed.as_mut_ptr(), feed.len()) }
+    }
+
+    fn feed(&self, feed: &mut [u64], piece: &[u8]) -> FeedAnswer {
+        unsafe { lnk100_feed(feed.as_mut_ptr(), feed.len(), piece.as_ptr(), piece.len()) }
+    }
+
+    fn close(&self, feed: &mut [u64], state: &mut [u64], work: &mut [u64]) -> LoadAnswer {
+        unsafe {
+            lnk100_close(feed.as_mut_ptr(), feed.len(), state.as_mut_ptr(), state.len(), work.as_mut_ptr(), work.len())
+        }
+    }
+
+    fn drop(&self, feed: &mut [u64]) -> CallAnswer {
+        unsafe { lnk100_drop(feed.as_mut_ptr(), feed.len()) }
     }
 }

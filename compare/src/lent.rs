@@ -1,7 +1,8 @@
 //! The Rust linker on lent memory: it tests the cells, decodes them, works on its own structures and encodes them back.
 
 use crate::answer::{Reason, Refusal};
-use crate::calls::{CallAnswer, Calls, EndAnswer, LoadAnswer, MemoryAnswer, SymbolAnswer, UndefinedAnswer};
+use crate::calls::*;
+use crate::feed::{self, Feed};
 use crate::linker::Linker;
 use crate::memory::{self, BROKEN, MARK, STATE_CELLS, WORK_CELLS};
 
@@ -18,9 +19,7 @@ impl Calls for Lent {
         }
         match outcome {
             Ok(rounds) => LoadAnswer { rounds, ..LoadAnswer::default() },
-            Err(refusal) => {
-                LoadAnswer { number: refusal.number(), line: refusal.line, column: refusal.column.into(), rounds: 0 }
-            }
+            Err(refusal) => refused_load(refusal),
         }
     }
 
@@ -77,6 +76,45 @@ impl Calls for Lent {
             Err(refusal) => EndAnswer { number: refusal.number(), line: refusal.line, length: 0 },
         }
     }
+
+    fn open(&self, feed: &mut [u64]) -> CallAnswer {
+        call_answer(feed::change(feed, Feed::open))
+    }
+
+    fn feed(&self, feed: &mut [u64], piece: &[u8]) -> FeedAnswer {
+        match feed::change(feed, |feed| feed.feed(piece)) {
+            Ok(None) => FeedAnswer::default(),
+            Ok(Some(fault)) => {
+                FeedAnswer { number: 0, advice: fault.number(), line: fault.line, column: fault.column.into() }
+            }
+            Err(refusal) => FeedAnswer { number: refusal.number(), ..FeedAnswer::default() },
+        }
+    }
+
+    fn close(&self, feed: &mut [u64], state: &mut [u64], work: &mut [u64]) -> LoadAnswer {
+        match feed::change(feed, Feed::take) {
+            Ok(file) => self.load(state, work, &file),
+            Err(refusal) => {
+                clear(work);
+                refused_load(refusal)
+            }
+        }
+    }
+
+    fn drop(&self, feed: &mut [u64]) -> CallAnswer {
+        call_answer(feed::change(feed, Feed::take).map(drop))
+    }
+}
+
+/// Work memory comes back zero, also from a call that had no use for it; of another length it is left alone.
+fn clear(work: &mut [u64]) {
+    if work.len() == WORK_CELLS {
+        work.fill(0);
+    }
+}
+
+fn refused_load(refusal: Refusal) -> LoadAnswer {
+    LoadAnswer { number: refusal.number(), line: refusal.line, column: refusal.column.into(), rounds: 0 }
 }
 
 fn load(state: &mut [u64], work_fits: bool, file: &[u8]) -> Result<u64, Refusal> {

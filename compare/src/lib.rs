@@ -1,5 +1,5 @@
-//! A linker for FPS-100 object files by document 01 and requests 1/14, 3/14 and 4/14 of document 02, written in plain Rust from
-//! the papers alone. It shares no code with the verified linker, so that the two can be compared: call by call (`differ`) and in time
+//! A linker for FPS-100 object files by document 01 and requests 1/14, 3/14, 4/14 and 5/14 of document 02, written in plain Rust
+//! from the papers alone. It shares no code with the verified linker, so that the two can be compared: call by call (`differ`) and in time
 //! (`bench`).
 //!
 //! - [`linker::Linker`] is the linker with its own structures; [`lent::Lent`] plays the same calls on lent memory.
@@ -10,6 +10,7 @@ pub mod answer;
 pub mod calls;
 pub mod differ;
 pub mod fault;
+pub mod feed;
 #[cfg(feature = "library")]
 pub mod ffi;
 pub mod lent;

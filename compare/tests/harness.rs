@@ -22,20 +22,22 @@ fn the_linker_agrees_with_itself() {
     let summary = run(&Lent, &options(150, true)).unwrap_or_else(|found| panic!("{found:?}"));
     assert_eq!(summary.random.cases, 150);
     // The cases at the limits have every answer of every call, before any random one.
-    let columns = [Force, Base, Reset, Memory, Symbols, Undefined, End];
+    let columns = [Force, Base, Reset, Memory, Symbols, Undefined, End, Open, Feed, Close, Drop];
     for column in columns.into_iter().chain([Load(Origin::Given)]) {
         for number in (0..ANSWERS).filter(|&number| column.can_give(number as u64)) {
             assert!(summary.limits.coverage.count(column, number) > 0, "{column:?} was never answered {number}");
         }
     }
     // They have every fault of a line at every place, have looked for names at every place of a long table and in sections
-    // of one remainder, and have met names with $ and . wherever a name stands.
+    // of one remainder, have met names with $ and . wherever a name stands, and have fed in every way that is counted.
     assert_eq!(summary.limits.coverage.faults.missing(), Vec::<String>::new());
     assert_eq!(summary.limits.coverage.lookups.missing(), Vec::<String>::new());
     assert_eq!(summary.limits.coverage.spelling.missing(), Vec::<String>::new());
+    assert_eq!(summary.limits.coverage.feeding.missing(), Vec::<String>::new());
 }
 
-/// A run that did not meet every fault of a line, look for names at every place, or meet those with $ and ., says which it missed.
+/// A run that did not meet every fault of a line, look for names at every place, meet those with $ and ., or feed in every way,
+/// says which it missed.
 #[test]
 fn what_a_run_missed_is_told() {
     let summary = run(&Lent, &options(0, false)).unwrap_or_else(|found| panic!("{found:?}"));
@@ -54,10 +56,20 @@ fn what_a_run_missed_is_told() {
         "a section with 64 and more of one remainder: wanted",
         "a name with $: title",
         "a name with . first: state memory",
+        "answer 23 of OPEN",
+        "answer 14 of CLOSE",
+        "feeding, advice: 21",
+        "feeding, cuts: between CR and LF",
     ] {
         assert!(missing.iter().any(|each| each == what), "{what}");
     }
-    for what in ["entry, 13: below of a long table", "a fault 21: the first field", "answer 17 of whole"] {
+    for what in [
+        "entry, 13: below of a long table",
+        "a fault 21: the first field",
+        "answer 17 of whole",
+        "answer 23 of damaged",
+        "answer 16 of CLOSE",
+    ] {
         assert!(!missing.iter().any(|each| each == what), "{what}");
     }
 }
@@ -285,6 +297,22 @@ impl Calls for Mutant {
             _ => {}
         }
         answer
+    }
+
+    fn open(&self, feed: &mut [u64]) -> CallAnswer {
+        Lent.open(feed)
+    }
+
+    fn feed(&self, feed: &mut [u64], piece: &[u8]) -> FeedAnswer {
+        Lent.feed(feed, piece)
+    }
+
+    fn close(&self, feed: &mut [u64], state: &mut [u64], work: &mut [u64]) -> LoadAnswer {
+        Lent.close(feed, state, work)
+    }
+
+    fn drop(&self, feed: &mut [u64]) -> CallAnswer {
+        Lent.drop(feed)
     }
 }
 

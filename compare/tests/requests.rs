@@ -1,5 +1,6 @@
-//! The requests of document 02. 3/14 is in `faults.rs`. 1/14: HIGH is the highest address that holds a placed word, and 65,535
-//! where none is placed. 4/14: `$` and `.` may follow the first letter of a name; the manual's `.LOCAL` is in `samples.rs`.
+//! The requests of document 02. 3/14 is in `faults.rs`, and 5/14 in `feeding.rs`. 1/14: HIGH is the highest address that holds a
+//! placed word, and 65,535 where none is placed. 4/14: `$` and `.` may follow the first letter of a name; the manual's `.LOCAL` is
+//! in `samples.rs`.
 
 mod common;
 use common::*;

@@ -4,8 +4,8 @@
 //!     differ --limits
 //!
 //! A failure names its case; `differ 1 SEED --first N --no-limits` plays that one alone. With `--reach-all` it is a failure
-//! too if the random cases miss an answer, a fault of a line, a name or a number of rounds. `--limits` lists the cases at the
-//! limits and what the papers answer them with.
+//! too if the random cases miss an answer, a fault of a line, a name, a number of rounds or a way of feeding. `--limits` lists
+//! the cases at the limits and what the papers answer them with.
 
 use std::process::ExitCode;
 use std::time::{Duration, Instant};
@@ -86,6 +86,9 @@ fn list_limits() {
                     println!("    {:?}: {number} at line {line}, column {column}", step.call);
                 }
                 None => {}
+            }
+            if let Some((advice @ 1.., line, column)) = step.advice {
+                println!("    {:?}: advises {advice} at line {line}, column {column}", step.call);
             }
         }
     }

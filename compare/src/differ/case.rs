@@ -6,15 +6,17 @@ use super::author::Author;
 use super::damage::{damaged, odd_lines};
 use super::long;
 use super::names::misspelled;
+use super::pieces;
 use super::rng::Rng;
 use super::states;
+use super::tape::FEED_CELLS;
 use crate::calls::{SymbolAnswer, UndefinedAnswer};
 use crate::memory::{fresh, STATE_CELLS, WORK_CELLS};
 
 #[derive(Clone, Debug)]
 pub struct Case {
     pub label: String,
-    /// State memory at the start, of the right length; its cells may hold anything.
+    /// State memory at the start, of the right length; its cells may hold anything. Feed memory is zero at the start.
     pub state: Vec<u64>,
     pub steps: Vec<Step>,
 }
@@ -24,6 +26,8 @@ pub struct Step {
     pub call: Call,
     /// How many cells of state memory are lent; another number than the fixed one is cut or filled up for this call.
     pub state_cells: usize,
+    /// The same of feed memory.
+    pub feed_cells: usize,
     /// The number, line and column of the answer where the paper gives them, whatever the implementations say.
     pub expected: Option<(u64, u64, u64)>,
     /// The same of a load's rounds.
@@ -33,11 +37,23 @@ pub struct Step {
     /// The same of the whole answer of SYMBOLS, and of UNDEFINED.
     pub symbol: Option<SymbolAnswer>,
     pub undefined: Option<UndefinedAnswer>,
+    /// The same of a piece's advice, with its line and column.
+    pub advice: Option<(u64, u64, u64)>,
 }
 
 impl From<Call> for Step {
     fn from(call: Call) -> Step {
-        Step { call, state_cells: STATE_CELLS, expected: None, rounds: None, high: None, symbol: None, undefined: None }
+        Step {
+            call,
+            state_cells: STATE_CELLS,
+            feed_cells: FEED_CELLS,
+            expected: None,
+            rounds: None,
+            high: None,
+            symbol: None,
+            undefined: None,
+            advice: None,
+        }
     }
 }
 
@@ -55,8 +71,20 @@ pub enum Call {
     Symbols(Index),
     Undefined(Index),
     End(Room),
+    Open,
+    Feed(Vec<u8>),
+    Close {
+        work_cells: usize,
+    },
+    Drop,
     /// No call: someone else writes into state memory.
     Poke(Vec<(usize, u64)>),
+    /// No call: feed memory becomes what an open and pieces of these bytes leave.
+    Fed(Vec<u8>),
+    /// No call: someone else writes into feed memory. What stood there is kept for `Mend`.
+    Harm(Harm),
+    /// No call: feed memory is again what it was before it was harmed.
+    Mend,
 }
 
 impl Call {
@@ -64,13 +92,28 @@ impl Call {
         Call::Load { file: file.into(), work_cells: WORK_CELLS, origin: Origin::Given }
     }
 
+    pub fn close() -> Call {
+        Call::Close { work_cells: WORK_CELLS }
+    }
+
     /// What the call is lent for reading.
     pub fn bytes(&self) -> &[u8] {
         match self {
             Call::Load { file, .. } => file,
             Call::Force(name) => name,
+            Call::Feed(piece) => piece,
             _ => &[],
         }
+    }
+
+    /// Whether the call is lent feed memory.
+    pub fn takes_feed(&self) -> bool {
+        matches!(self, Call::Open | Call::Feed(_) | Call::Close { .. } | Call::Drop)
+    }
+
+    /// Whether the call is lent state memory.
+    pub fn takes_state(&self) -> bool {
+        !matches!(self, Call::Open | Call::Feed(_) | Call::Drop)
     }
 }
 
@@ -101,6 +144,19 @@ pub enum Room {
     FromImage(isize),
 }
 
+/// What someone else writes into feed memory, also relative to what stands there when it is done.
+#[derive(Clone, Copy, Debug)]
+pub enum Harm {
+    /// The first cell holds this.
+    First(u64),
+    /// The first cell is so much more, or less.
+    Grown(i64),
+    /// The byte so far behind the last one that was fed, or before it, holds this. Behind 65,536 nothing is done.
+    Byte(isize, u8),
+    /// A cell holds this.
+    Cell(usize, u64),
+}
+
 impl fmt::Debug for Call {
     fn fmt(&self, f: &mut fmt::Formatter<'_>) -> fmt::Result {
         match self {
@@ -112,6 +168,13 @@ impl fmt::Debug for Call {
             Call::Symbols(index) => write!(f, "SYMBOLS {index:?}"),
             Call::Undefined(index) => write!(f, "UNDEFINED {index:?}"),
             Call::End(room) => write!(f, "END {room:?}"),
+            Call::Open => write!(f, "OPEN"),
+            Call::Feed(piece) => write!(f, "FEED of {} bytes", piece.len()),
+            Call::Close { work_cells } => write!(f, "CLOSE, work {work_cells}"),
+            Call::Drop => write!(f, "DROP"),
+            Call::Fed(bytes) => write!(f, "{} bytes fed", bytes.len()),
+            Call::Harm(harm) => write!(f, "harm {harm:?}"),
+            Call::Mend => write!(f, "mend"),
             Call::Poke(cells) => write!(f, "poke {cells:?}"),
         }
     }
@@ -119,24 +182,21 @@ impl fmt::Debug for Call {
 
 /// A case drawn at random.
 pub fn random(rng: &mut Rng) -> Case {
-    match rng.below(100) {
-        0..10 => return long::table(rng),
-        10..13 => return long::section(rng),
-        _ => {}
-    }
-    let mut author = Author::new(rng);
-    let (label, state) = match rng.below(100) {
-        0..60 => ("from fresh", fresh()),
-        60..85 => ("from a random sound state", states::sound(&author, rng)),
-        _ => {
-            let mut cells = if rng.percent(80) { states::sound(&author, rng) } else { fresh() };
-            for _ in 0..*rng.pick(&[1, 1, 1, 2]) {
-                let (cell, content) = states::poke(&cells, rng);
-                cells[cell] = content;
-            }
-            ("from a damaged state", cells)
-        }
+    let case = match rng.below(100) {
+        0..10 => long::table(rng),
+        10..13 => long::section(rng),
+        13..20 => return pieces::fed(rng),
+        _ => random_calls(rng),
     };
+    if rng.percent(8) {
+        return pieces::in_pieces(case, rng);
+    }
+    case
+}
+
+fn random_calls(rng: &mut Rng) -> Case {
+    let mut author = Author::new(rng);
+    let (label, state) = random_start(&author, rng);
     let mut steps: Vec<Step> = Vec::new();
     for _ in 0..rng.within(1..=8) {
         let (call, reset_chance) = random_call(&mut author, rng);
@@ -148,8 +208,24 @@ pub fn random(rng: &mut Rng) -> Case {
     Case { label: label.into(), state, steps }
 }
 
+/// The state that a case starts from, and a word for it.
+pub fn random_start(author: &Author, rng: &mut Rng) -> (&'static str, Vec<u64>) {
+    match rng.below(100) {
+        0..60 => ("from fresh", fresh()),
+        60..85 => ("from a random sound state", states::sound(author, rng)),
+        _ => {
+            let mut cells = if rng.percent(80) { states::sound(author, rng) } else { fresh() };
+            for _ in 0..*rng.pick(&[1, 1, 1, 2]) {
+                let (cell, content) = states::poke(&cells, rng);
+                cells[cell] = content;
+            }
+            ("from a damaged state", cells)
+        }
+    }
+}
+
 /// A call, and the chance in percent that a reset follows: little can be seen behind a refused load.
-fn random_call(author: &mut Author, rng: &mut Rng) -> (Call, usize) {
+pub fn random_call(author: &mut Author, rng: &mut Rng) -> (Call, usize) {
     let load =
         |file: Vec<u8>, origin, rng: &mut Rng| Call::Load { file, work_cells: random_length(rng, WORK_CELLS), origin };
     let call = match rng.below(100) {
@@ -169,7 +245,7 @@ fn random_call(author: &mut Author, rng: &mut Rng) -> (Call, usize) {
 }
 
 /// The right length, and now and then another.
-fn random_length(rng: &mut Rng, right: usize) -> usize {
+pub fn random_length(rng: &mut Rng, right: usize) -> usize {
     if !rng.percent(2) {
         return right;
     }
@@ -177,7 +253,7 @@ fn random_length(rng: &mut Rng, right: usize) -> usize {
     *rng.pick(&[0, 1, any, right - 1, right + 1, right + 100])
 }
 
-fn odd_file(rng: &mut Rng) -> Vec<u8> {
+pub fn odd_file(rng: &mut Rng) -> Vec<u8> {
     match rng.below(6) {
         0 => vec![b'\n'; rng.within(65_530..=65_540)],
         1 => (0..rng.below(200)).map(|_| rng.next() as u8).collect(),

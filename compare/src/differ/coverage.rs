@@ -1,11 +1,13 @@
 //! What a run reached: how often each call gave each answer, which faults of lines were told, how many rounds the accepted
-//! loads had, where HIGH stood, which names were looked for, and where names with `$` and `.` stood.
-//! Document 01, with request 3/14, says which answers a call can give at all; a run that is meant to reach them all names those that it missed.
+//! loads had, where HIGH stood, which names were looked for, where names with `$` and `.` stood, and what was fed.
+//! Document 01, with requests 3/14 and 5/14, says which answers a call can give at all; a run that is meant to reach them all names
+//! those that it missed.
 
 use std::fmt;
 
 use super::case::{Call, Origin};
 use super::faults::Faults;
+use super::feeding::Feeding;
 use super::lookups::Lookups;
 use super::spelling::Spelling;
 use crate::linker::NO_ADDRESS;
@@ -21,14 +23,18 @@ pub enum Column {
     Symbols,
     Undefined,
     End,
+    Open,
+    Feed,
+    Close,
+    Drop,
 }
 
 use Column::*;
 
 /// The answers have the numbers below this one.
-pub const ANSWERS: usize = 22;
+pub const ANSWERS: usize = 24;
 
-const COLUMNS: [(Column, &str); 11] = [
+const COLUMNS: [(Column, &str); 15] = [
     (Load(Origin::Given), "given"),
     (Load(Origin::Whole), "whole"),
     (Load(Origin::Damaged), "damaged"),
@@ -40,6 +46,10 @@ const COLUMNS: [(Column, &str); 11] = [
     (Symbols, "SYMBOLS"),
     (Undefined, "UNDEF."),
     (End, "END"),
+    (Open, "OPEN"),
+    (Feed, "FEED"),
+    (Close, "CLOSE"),
+    (Drop, "DROP"),
 ];
 
 impl Column {
@@ -54,7 +64,11 @@ impl Column {
             Call::Symbols(_) => Symbols,
             Call::Undefined(_) => Undefined,
             Call::End(_) => End,
-            Call::Poke(_) => return None,
+            Call::Open => Open,
+            Call::Feed(_) => Feed,
+            Call::Close { .. } => Close,
+            Call::Drop => Drop,
+            Call::Poke(_) | Call::Fed(_) | Call::Harm(_) | Call::Mend => return None,
         })
     }
 
@@ -68,6 +82,8 @@ impl Column {
             Reset => matches!(number, 0..=1),
             Memory | Symbols | Undefined => matches!(number, 0..=2),
             End => matches!(number, 0..=3 | 16),
+            Open | Feed | Drop => matches!(number, 0..=2 | 23),
+            Close => matches!(number, 0..=14 | 17..=21 | 23),
         }
     }
 
@@ -101,6 +117,7 @@ pub struct Coverage {
     pub faults: Faults,
     pub lookups: Lookups,
     pub spelling: Spelling,
+    pub feeding: Feeding,
 }
 
 impl Coverage {
@@ -174,6 +191,7 @@ impl Coverage {
         missing.extend(self.faults.missing());
         missing.extend(self.lookups.missing());
         missing.extend(self.spelling.missing());
+        missing.extend(self.feeding.missing());
         missing
     }
 }
@@ -196,7 +214,7 @@ impl fmt::Display for Coverage {
             write!(f, " {:>8}", COLUMNS[at].1)?;
         }
         writeln!(f)?;
-        for number in 0..ANSWERS {
+        for number in (0..ANSWERS).filter(|&number| COLUMNS.iter().any(|each| each.0.can_give(number as u64))) {
             write!(f, "{number:6}")?;
             for &at in &shown_columns {
                 match (COLUMNS[at].0.can_give(number as u64), self.answers[at][number]) {
@@ -220,6 +238,7 @@ impl fmt::Display for Coverage {
         )?;
         writeln!(f, "{}", self.faults)?;
         writeln!(f, "{}", self.lookups)?;
-        self.spelling.fmt(f)
+        writeln!(f, "{}", self.spelling)?;
+        self.feeding.fmt(f)
     }
 }

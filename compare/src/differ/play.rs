@@ -2,11 +2,13 @@
 
 use std::fmt;
 
-use super::case::{Call, Case, Index, Room, Step};
+use super::case::{Call, Case, Harm, Index, Room, Step};
 use super::coverage::{Column, Coverage};
+use super::feeding::Met;
 use super::rng::Rng;
+use super::tape::{Tape, FEED_CELLS, MOST_BYTES};
 use super::told;
-use crate::calls::{CallAnswer, Calls, EndAnswer, LoadAnswer, MemoryAnswer, SymbolAnswer, UndefinedAnswer};
+use crate::calls::*;
 use crate::lent::Lent;
 use crate::linker::{MOST_SYMBOLS, PROGRAM_WORDS};
 use crate::memory::*;
@@ -22,7 +24,7 @@ pub struct Failure {
     pub step: usize,
     pub call: String,
     pub what: String,
-    /// The file, where the call was a LOAD.
+    /// The file, where the call was a LOAD or a CLOSE.
     pub file: Option<Vec<u8>>,
 }
 
@@ -41,10 +43,11 @@ enum Answer {
     Symbol(SymbolAnswer),
     Undefined(UndefinedAnswer),
     End(EndAnswer),
+    Feed(FeedAnswer),
 }
 
 impl Answer {
-    /// The number, the line and the column, which LOAD alone has.
+    /// The number, the line and the column, which LOAD and CLOSE alone have.
     fn parts(self) -> (u64, u64, u64) {
         match self {
             Answer::Load(a) => (a.number, a.line, a.column),
@@ -53,6 +56,8 @@ impl Answer {
             Answer::Symbol(a) => (a.number, a.line, 0),
             Answer::Undefined(a) => (a.number, a.line, 0),
             Answer::End(a) => (a.number, a.line, 0),
+            // its line and column belong to the advice
+            Answer::Feed(a) => (a.number, 0, 0),
         }
     }
 
@@ -65,6 +70,7 @@ impl Answer {
             Answer::Symbol(a) => a == SymbolAnswer { number: a.number, line: a.line, ..Default::default() },
             Answer::Undefined(a) => a == UndefinedAnswer { number: a.number, line: a.line, ..Default::default() },
             Answer::End(a) => a.length == 0,
+            Answer::Feed(a) => a == FeedAnswer { number: a.number, ..Default::default() },
         }
     }
 }
@@ -108,6 +114,7 @@ struct Side<'a> {
     state: Guarded<u64>,
     work: Guarded<u64>,
     out: Guarded<u8>,
+    feed: Guarded<u64>,
 }
 
 impl<'a> Side<'a> {
@@ -117,6 +124,7 @@ impl<'a> Side<'a> {
             state: Guarded::new(&fresh(), CELL_GUARD),
             work: Guarded::new(&vec![0; WORK_CELLS], CELL_GUARD),
             out: Guarded::new(&[], BYTE_GUARD),
+            feed: Guarded::new(&[], CELL_GUARD),
         }
     }
 
@@ -131,11 +139,15 @@ impl<'a> Side<'a> {
             ResolvedCall::Symbols(index) => Answer::Symbol(calls.symbols(state, index)),
             ResolvedCall::Undefined(index) => Answer::Undefined(calls.undefined(state, index)),
             ResolvedCall::End => Answer::End(calls.end(state, self.out.lent())),
+            ResolvedCall::Open => Answer::Call(calls.open(self.feed.lent())),
+            ResolvedCall::Feed(piece) => Answer::Feed(calls.feed(self.feed.lent(), piece)),
+            ResolvedCall::Close => Answer::Load(calls.close(self.feed.lent(), state, self.work.lent())),
+            ResolvedCall::Drop => Answer::Call(calls.drop(self.feed.lent())),
         }
     }
 
     fn is_intact(&self) -> bool {
-        self.state.is_intact() && self.work.is_intact() && self.out.is_intact()
+        self.state.is_intact() && self.work.is_intact() && self.out.is_intact() && self.feed.is_intact()
     }
 }
 
@@ -150,6 +162,10 @@ enum ResolvedCall<'a> {
     Symbols(u64),
     Undefined(u64),
     End,
+    Open,
+    Feed(&'a [u8]),
+    Close,
+    Drop,
 }
 
 /// Two implementations with equal memories: the Rust linker, and the one that is compared with it.
@@ -157,28 +173,49 @@ pub struct Player<'a> {
     reference: Side<'a>,
     subject: Side<'a>,
     junk: Rng,
+    tape: Tape,
+    /// The tape and feed memory before they were harmed.
+    unharmed: Option<(Tape, Vec<u64>)>,
+    /// Work memory for calls beside the case.
+    scratch: Vec<u64>,
     pub coverage: Coverage,
+}
+
+/// What stood in the memory that a call is lent, before it. What it is not lent is left out, to save time.
+struct Before {
+    state: Vec<u64>,
+    feed: Vec<u64>,
+    /// Where it has not its fixed length.
+    work: Option<Vec<u64>>,
+    out: Vec<u8>,
 }
 
 impl<'a> Player<'a> {
     pub fn new(subject: &'a dyn Calls) -> Player<'a> {
         let (reference, subject) = (Side::new(&Lent), Side::new(subject));
-        Player { reference, subject, junk: Rng::new(0), coverage: Coverage::default() }
+        Player {
+            reference,
+            subject,
+            junk: Rng::new(0),
+            tape: Tape::Idle,
+            unharmed: None,
+            scratch: vec![0; WORK_CELLS],
+            coverage: Coverage::default(),
+        }
     }
 
     /// Plays the steps and then looks at the end state with every call that reads it.
     pub fn play(&mut self, case: &Case, rng: &mut Rng) -> Result<(), Failure> {
         self.junk = rng.clone();
         self.put_state(&case.state);
+        self.put_feed(Tape::Idle, &vec![0; FEED_CELLS]);
         for (number, step) in case.steps.iter().enumerate() {
+            let file = self.file_of(&step.call);
             self.step(step).map_err(|what| Failure {
                 step: number + 1,
-                call: format!("{:?} on {} cells", step.call, step.state_cells),
+                call: format!("{:?} on {} cells{}", step.call, step.state_cells, feed_shown(step)),
                 what,
-                file: match &step.call {
-                    Call::Load { file, .. } => Some(file.clone()),
-                    _ => None,
-                },
+                file,
             })?;
         }
         for call in self.last_looks() {
@@ -207,39 +244,80 @@ impl<'a> Player<'a> {
         looks
     }
 
+    /// What a call loads.
+    fn file_of(&self, call: &Call) -> Option<Vec<u8>> {
+        match (call, &self.tape) {
+            (Call::Load { file, .. }, _) => Some(file.clone()),
+            (Call::Close { .. }, Tape::Open(fed)) => Some(fed.bytes.clone()),
+            _ => None,
+        }
+    }
+
     fn put_state(&mut self, cells: &[u64]) {
         for side in [&mut self.reference, &mut self.subject] {
             side.state = Guarded::new(cells, CELL_GUARD);
         }
     }
 
+    fn put_feed(&mut self, tape: Tape, cells: &[u64]) {
+        self.tape = tape;
+        for side in [&mut self.reference, &mut self.subject] {
+            side.feed = Guarded::new(cells, CELL_GUARD);
+        }
+    }
+
     fn step(&mut self, step: &Step) -> Result<(), String> {
-        if let Call::Poke(cells) = &step.call {
-            for side in [&mut self.reference, &mut self.subject] {
-                cells.iter().for_each(|&(cell, content)| side.state.lent()[cell] = content);
-            }
+        if self.meddle(&step.call) {
             return Ok(());
         }
-        if step.state_cells == STATE_CELLS {
-            return self.call(step);
-        }
-        // Another length: this call gets a copy, cut or filled up, and the state itself stays for the next one.
-        let kept = self.reference.state.view().to_vec();
-        let mut other = kept.clone();
-        other.resize(step.state_cells, 0);
-        self.put_state(&other);
+        // Another length: this call gets a copy, cut or filled up, and the memory itself stays for the next one.
+        let other = |memory: &Guarded<u64>, cells: usize, right: usize| {
+            (cells != right).then(|| (resized(memory.view(), cells), memory.view().to_vec()))
+        };
+        let state = other(&self.reference.state, step.state_cells, STATE_CELLS);
+        let feed = other(&self.reference.feed, step.feed_cells, FEED_CELLS);
+        state.iter().for_each(|(other, _)| self.put_state(other));
+        feed.iter().for_each(|(other, _)| self.put_feed(self.tape.clone(), other));
         let outcome = self.call(step);
-        self.put_state(&kept);
+        state.iter().for_each(|(_, kept)| self.put_state(kept));
+        feed.iter().for_each(|(_, kept)| self.put_feed(self.tape.clone(), kept));
         outcome
     }
 
+    /// Does what is no call. Tells whether it was none.
+    fn meddle(&mut self, call: &Call) -> bool {
+        match call {
+            Call::Poke(cells) => {
+                for side in [&mut self.reference, &mut self.subject] {
+                    cells.iter().for_each(|&(cell, content)| side.state.lent()[cell] = content);
+                }
+            }
+            Call::Fed(bytes) => {
+                let tape = Tape::of(bytes);
+                let cells = tape.form().unwrap_or_default();
+                self.put_feed(tape, &cells);
+            }
+            Call::Harm(harm) => {
+                let cells = self.reference.feed.view().to_vec();
+                let tape = std::mem::take(&mut self.tape);
+                self.put_feed(Tape::Unknown, &harmed(&cells, *harm));
+                self.unharmed = Some((tape, cells));
+            }
+            Call::Mend => {
+                if let Some((tape, cells)) = self.unharmed.take() {
+                    self.put_feed(tape, &cells);
+                }
+            }
+            _ => return false,
+        }
+        true
+    }
+
     fn call(&mut self, step: &Step) -> Result<(), String> {
-        let before = self.reference.state.view().to_vec();
         // What is lent for reading is a copy, so that it can be seen whether somebody wrote to it.
         let bytes = step.call.bytes().to_vec();
-        let call = self.prepare(&step.call, &bytes, &before);
-        let work = (self.subject.work.view().len() != WORK_CELLS).then(|| self.subject.work.view().to_vec());
-        let out = self.subject.out.view().to_vec();
+        let call = self.prepare(&step.call, &bytes);
+        let before = self.before(&step.call);
 
         let expected = self.reference.call(&call);
         let answer = self.subject.call(&call);
@@ -249,15 +327,31 @@ impl<'a> Player<'a> {
             return Err(format!("answered {answer:?}, the Rust linker {expected:?}"));
         }
         noted?;
-        self.note_file(&step.call, answer, &before);
+        self.note_file(&step.call, answer, &before.state);
         let (number, line, _) = answer.parts();
-        self.coverage.spelling.note(&step.call, number, line, &before);
+        self.coverage.spelling.note(&step.call, number, line, &before.state);
         self.check_paper(step, answer)?;
         if bytes != step.call.bytes() {
             return Err("wrote into the bytes that were lent for reading".into());
         }
-        self.compare_memory(&call)?;
-        self.check_promises(&call, answer, &before, work.as_deref(), &out)
+        self.compare_memory(&step.call)?;
+        self.check_promises(&step.call, answer, &before)?;
+        if step.call.takes_feed() {
+            self.note_feed(step, answer, &before);
+            self.check_feed(step, answer, &before)?;
+        }
+        Ok(())
+    }
+
+    fn before(&self, call: &Call) -> Before {
+        let Side { state, feed, work, out, .. } = &self.subject;
+        let copy = |memory: &Guarded<u64>, is_lent: bool| if is_lent { memory.view().to_vec() } else { Vec::new() };
+        Before {
+            state: copy(state, call.takes_state()),
+            feed: copy(feed, call.takes_feed()),
+            work: (work.view().len() != WORK_CELLS).then(|| work.view().to_vec()),
+            out: if let Call::End(_) = call { out.view().to_vec() } else { Vec::new() },
+        }
     }
 
     /// What the paper says of this very step, where it is given.
@@ -281,6 +375,11 @@ impl<'a> Player<'a> {
                 return Err(format!("both answered {undefined:?}, the paper says {expected:?}"));
             }
         }
+        if let (Some(expected), Answer::Feed(FeedAnswer { advice, line, column, .. })) = (step.advice, answer) {
+            if (advice, line, column) != expected {
+                return Err(format!("both advised {answer:?}, the paper says {expected:?}"));
+            }
+        }
         let high = self.high(answer);
         if step.high.is_some() && high != step.high {
             return Err(format!("HIGH is {high:?}, the paper says {:?}", step.high));
@@ -301,7 +400,8 @@ impl<'a> Player<'a> {
     }
 
     /// Works out the arguments, and fills work memory and output with anything.
-    fn prepare<'b>(&mut self, call: &Call, bytes: &'b [u8], state: &[u64]) -> ResolvedCall<'b> {
+    fn prepare<'b>(&mut self, call: &Call, bytes: &'b [u8]) -> ResolvedCall<'b> {
+        let state = self.reference.state.view();
         match *call {
             Call::Load { work_cells, .. } => {
                 self.fill_work(work_cells);
@@ -317,7 +417,14 @@ impl<'a> Player<'a> {
                 self.fill_out(resolve_room(room, state));
                 ResolvedCall::End
             }
-            Call::Poke(_) => unreachable!("a poke is no call"),
+            Call::Open => ResolvedCall::Open,
+            Call::Feed(_) => ResolvedCall::Feed(bytes),
+            Call::Close { work_cells } => {
+                self.fill_work(work_cells);
+                ResolvedCall::Close
+            }
+            Call::Drop => ResolvedCall::Drop,
+            Call::Poke(_) | Call::Fed(_) | Call::Harm(_) | Call::Mend => unreachable!("no call"),
         }
     }
 
@@ -363,6 +470,8 @@ impl<'a> Player<'a> {
     /// Counts the fault of a line that a load told, or its rounds, and the names that a load or FORCE has looked for.
     fn note_file(&mut self, call: &Call, answer: Answer, before: &[u64]) {
         match answer {
+            // a CLOSE, whose file is another matter
+            Answer::Load(_) if call.takes_feed() => {}
             Answer::Load(LoadAnswer { number: 6 | 17..=21, .. }) => self.coverage.faults.note(call.bytes()),
             Answer::Load(LoadAnswer { number: number @ (0 | 9..=14), line, rounds, .. }) => {
                 let Ok(items) = reader::read(call.bytes()) else { return };
@@ -381,11 +490,18 @@ impl<'a> Player<'a> {
         }
     }
 
-    fn compare_memory(&self, call: &ResolvedCall) -> Result<(), String> {
-        same("state cell", self.subject.state.view(), self.reference.state.view())?;
+    fn compare_memory(&self, call: &Call) -> Result<(), String> {
+        if call.takes_state() {
+            same("state cell", self.subject.state.view(), self.reference.state.view())?;
+        }
+        if call.takes_feed() {
+            same("feed cell", self.subject.feed.view(), self.reference.feed.view())?;
+        }
         match call {
-            ResolvedCall::Load(_) => same("work cell", self.subject.work.view(), self.reference.work.view())?,
-            ResolvedCall::End => same("output byte", self.subject.out.view(), self.reference.out.view())?,
+            Call::Load { .. } | Call::Close { .. } => {
+                same("work cell", self.subject.work.view(), self.reference.work.view())?;
+            }
+            Call::End(_) => same("output byte", self.subject.out.view(), self.reference.out.view())?,
             _ => {}
         }
         if !self.subject.is_intact() {
@@ -396,43 +512,41 @@ impl<'a> Player<'a> {
 
     /// A refusal has zeros in its answer, and changes nothing but the broken mark, which a load sets that was refused for its
     /// file.
-    fn check_refusal(&self, answer: Answer, before: &[u64], out: &[u8]) -> Result<(), String> {
+    fn check_refusal(&self, call: &Call, answer: Answer, before: &Before) -> Result<(), String> {
         if !answer.rest_is_zero() {
             return Err(format!("a refused answer has more than a number, a line and a column: {answer:?}"));
         }
-        let mut kept = before.to_vec();
+        if let Call::End(_) = call {
+            same("after a refusal, output byte", self.subject.out.view(), &before.out)?;
+        }
+        if !call.takes_state() {
+            return Ok(());
+        }
+        let mut kept = before.state.clone();
         if let Answer::Load(LoadAnswer { number: 6..=14 | 17..=21, .. }) = answer {
             kept[MARK] = BROKEN;
         }
-        same("after a refusal, state cell", self.subject.state.view(), &kept)?;
-        same("after a refusal, output byte", self.subject.out.view(), out)
+        same("after a refusal, state cell", self.subject.state.view(), &kept)
     }
 
     /// What must hold of the subject whatever the Rust linker says.
-    fn check_promises(
-        &self,
-        call: &ResolvedCall,
-        answer: Answer,
-        before: &[u64],
-        work: Option<&[u64]>,
-        out: &[u8],
-    ) -> Result<(), String> {
+    fn check_promises(&self, call: &Call, answer: Answer, before: &Before) -> Result<(), String> {
         let (number, _, _) = answer.parts();
         let after = self.subject.state.view();
         let refused = number != 0;
-        if let (ResolvedCall::Load(file), Answer::Load(load)) = (call, answer) {
+        if let (Call::Load { file, .. }, Answer::Load(load)) = (call, answer) {
             told::check(file, load)?;
         }
         if refused {
-            self.check_refusal(answer, before, out)?;
+            self.check_refusal(call, answer, before)?;
         }
-        if !refused && !is_sound(after) {
+        if !refused && call.takes_state() && !is_sound(after) {
             return Err("left a state that is not sound".into());
         }
-        if let ResolvedCall::Load(_) = call {
+        if let Answer::Load(_) = answer {
             let lent = self.subject.work.view();
             if lent.len() != WORK_CELLS {
-                same("work memory of another length, cell", lent, work.unwrap_or(lent))?;
+                same("work memory of another length, cell", lent, before.work.as_deref().unwrap_or(lent))?;
             } else if lent.iter().any(|&cell| cell != 0) {
                 return Err("work memory did not come back zero".into());
             }
@@ -442,10 +556,107 @@ impl<'a> Player<'a> {
             if length != image as u64 {
                 return Err(format!("the image has {image} bytes, and not {length}"));
             }
-            same("past the image, output byte", &self.subject.out.view()[image..], &out[image..])?;
+            same("past the image, output byte", &self.subject.out.view()[image..], &before.out[image..])?;
         }
         Ok(())
     }
+
+    fn note_feed(&mut self, step: &Step, answer: Answer, before: &Before) {
+        self.coverage.feeding.note(&Met {
+            call: &step.call,
+            tape: &self.tape,
+            number: answer.parts().0,
+            advice: if let Answer::Feed(feed) = answer { feed.advice } else { 0 },
+            feed: &before.feed,
+            // a call that is not lent the state leaves it
+            state: if step.call.takes_state() { &before.state } else { self.subject.state.view() },
+        });
+    }
+
+    /// What must hold of a call on feed memory, by what was fed before it.
+    fn check_feed(&mut self, step: &Step, answer: Answer, before: &Before) -> Result<(), String> {
+        let own = self.tape.own_answer(&step.call, step.feed_cells);
+        let (number, _, _) = answer.parts();
+        // a close that passes the feed's own checks meets the state's
+        let is_close = matches!(step.call, Call::Close { .. });
+        if own.is_some_and(|own| own != number && !(is_close && own == 0)) {
+            return Err(format!("answered {number}, by the feed's own checks it is {own:?}"));
+        }
+        if own.is_some_and(|own| own != 0) || number != 0 && !is_close {
+            return same("after a refusal, feed cell", self.subject.feed.view(), &before.feed);
+        }
+        if let Answer::Load(load) = answer {
+            self.check_joined(load, before)?;
+        }
+        if is_close || matches!(step.call, Call::Drop) {
+            self.check_advice()?;
+        }
+        if own.is_none() {
+            // a harmed memory that is sound all the same; what it comes to is known again where nothing is open
+            let is_idle = self.subject.feed.view().iter().all(|&cell| cell == 0);
+            self.tape = if is_idle { Tape::Idle } else { Tape::Unknown };
+            return Ok(());
+        }
+        self.tape.pass(&step.call, if let Answer::Feed(feed) = answer { Some(feed) } else { None });
+        same("feed cell", self.subject.feed.view(), &self.tape.form().unwrap_or_default())
+    }
+
+    /// A close does what a LOAD of all bytes fed does, by the same implementation and from the same memories.
+    fn check_joined(&mut self, close: LoadAnswer, before: &Before) -> Result<(), String> {
+        let Tape::Open(fed) = &self.tape else { return Ok(()) };
+        let mut state = before.state.clone();
+        let mut work = before.work.clone().unwrap_or_else(|| std::mem::take(&mut self.scratch));
+        let load = self.subject.calls.load(&mut state, &mut work, &fed.bytes);
+        if before.work.is_none() {
+            self.scratch = work;
+        }
+        if close != load {
+            return Err(format!("answered {close:?}, and its own LOAD of the joined bytes {load:?}"));
+        }
+        told::check(&fed.bytes, close)?;
+        same("beside a LOAD of the joined bytes, state cell", self.subject.state.view(), &state)
+    }
+
+    /// The pieces have advised what a LOAD from the fresh state tells of the bytes that they brought.
+    fn check_advice(&mut self) -> Result<(), String> {
+        let Tape::Open(fed) = &self.tape else { return Ok(()) };
+        let load = self.subject.calls.load(&mut fresh(), &mut self.scratch, fed.advised_part());
+        fed.check_advice(load)
+    }
+}
+
+/// Cut, or filled up with zeros.
+pub fn resized(cells: &[u64], length: usize) -> Vec<u64> {
+    let mut other = cells.to_vec();
+    other.resize(length, 0);
+    other
+}
+
+fn feed_shown(step: &Step) -> String {
+    if step.call.takes_feed() {
+        format!(", feed {}", step.feed_cells)
+    } else {
+        String::new()
+    }
+}
+
+/// Feed memory after someone else wrote into it.
+fn harmed(cells: &[u64], harm: Harm) -> Vec<u64> {
+    let mut cells = cells.to_vec();
+    match harm {
+        Harm::First(content) => cells[0] = content,
+        Harm::Grown(more) => cells[0] = cells[0].wrapping_add_signed(more),
+        Harm::Byte(distance, byte) => {
+            let total = cells[0].saturating_sub(1).min(MOST_BYTES as u64) as usize;
+            let place = total.saturating_add_signed(distance);
+            if let Some(cell) = cells.get_mut(1 + place / 8) {
+                let shift = 8 * (place % 8);
+                *cell = *cell & !(0xFF << shift) | u64::from(byte) << shift;
+            }
+        }
+        Harm::Cell(cell, content) => cells[cell] = content,
+    }
+    cells
 }
 
 fn same<T: PartialEq + fmt::Debug>(what: &str, found: &[T], expected: &[T]) -> Result<(), String> {

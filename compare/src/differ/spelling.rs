@@ -87,8 +87,11 @@ pub struct Spelling {
 }
 
 impl Spelling {
-    /// A call that was answered with this number and line.
+    /// A call that was answered with this number and line. Those on feed memory do not count.
     pub fn note(&mut self, call: &Call, number: u64, line: u64, before: &[u64]) {
+        if call.takes_feed() {
+            return;
+        }
         match (call, number) {
             (Call::Load { file, .. }, 0 | 9..=14) => {
                 names_of(file).into_iter().for_each(|name| self.accept(name.place, &file[name.range]));

@@ -2,7 +2,7 @@
 
 use std::slice::{from_raw_parts, from_raw_parts_mut};
 
-use compare::calls::{CallAnswer, Calls, EndAnswer, LoadAnswer, MemoryAnswer, SymbolAnswer, UndefinedAnswer};
+use compare::calls::*;
 use compare::lent::Lent;
 
 /// # Safety
@@ -72,4 +72,45 @@ pub unsafe extern "C" fn lnk100_undefined(state: *const u64, state_len: usize, i
 #[no_mangle]
 pub unsafe extern "C" fn lnk100_end(state: *mut u64, state_len: usize, out: *mut u8, out_len: usize) -> EndAnswer {
     Lent.end(from_raw_parts_mut(state, state_len), from_raw_parts_mut(out, out_len))
+}
+
+/// # Safety
+/// As above.
+#[no_mangle]
+pub unsafe extern "C" fn lnk100_open(feed: *mut u64, feed_len: usize) -> CallAnswer {
+    Lent.open(from_raw_parts_mut(feed, feed_len))
+}
+
+/// # Safety
+/// As above.
+#[no_mangle]
+pub unsafe extern "C" fn lnk100_feed(
+    feed: *mut u64,
+    feed_len: usize,
+    piece: *const u8,
+    piece_len: usize,
+) -> FeedAnswer {
+    Lent.feed(from_raw_parts_mut(feed, feed_len), from_raw_parts(piece, piece_len))
+}
+
+/// # Safety
+/// As above.
+#[no_mangle]
+pub unsafe extern "C" fn lnk100_close(
+    feed: *mut u64,
+    feed_len: usize,
+    state: *mut u64,
+    state_len: usize,
+    work: *mut u64,
+    work_len: usize,
+) -> LoadAnswer {
+    let (state, work) = (from_raw_parts_mut(state, state_len), from_raw_parts_mut(work, work_len));
+    Lent.close(from_raw_parts_mut(feed, feed_len), state, work)
+}
+
+/// # Safety
+/// As above.
+#[no_mangle]
+pub unsafe extern "C" fn lnk100_drop(feed: *mut u64, feed_len: usize) -> CallAnswer {
+    Lent.drop(from_raw_parts_mut(feed, feed_len))
 }

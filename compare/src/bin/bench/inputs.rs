@@ -66,7 +66,7 @@ fn typical(divisor: usize) -> Input {
 }
 
 /// Modules of one entry, two externals and twenty words, until the file is full.
-fn modules(divisor: usize) -> Input {
+pub fn modules(divisor: usize) -> Input {
     let file = modules_file(LONGEST_FILE / divisor);
     Input { size: format!("{} bytes", file.len()), state: fresh(), job: Job::Load(file.into()), expected: 0 }
 }
@@ -123,7 +123,7 @@ fn chain_beside_entries(divisor: usize) -> Input {
 }
 
 /// Free modules of 64 externals, all of one letter. The table is full and has the letters last.
-fn one_letter_externals(divisor: usize) -> Input {
+pub fn one_letter_externals(divisor: usize) -> Input {
     let letters: Vec<String> = (0..64).map(|i| char::from(b'A' + i % 26).to_string() + "\n").collect();
     let module = format!("3 ***TITLE\nA\n5 100 ***EXT\n{}1 ***END\nA\n", letters.concat());
     let count = LONGEST_FILE / divisor / module.len();
@@ -187,7 +187,7 @@ fn entries_of_one_remainder(divisor: usize) -> Input {
 }
 
 /// The last title has a character too many, which no name has.
-fn refused_by_reading(divisor: usize) -> Input {
+pub fn refused_by_reading(divisor: usize) -> Input {
     let mut file = modules_file(LONGEST_FILE / divisor - 8).trim_end().to_string();
     file = padded(file + "/", LONGEST_FILE / divisor);
     Input { size: format!("{} bytes", file.len()), state: fresh(), job: Job::Load(file.into()), expected: 19 }

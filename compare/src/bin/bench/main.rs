@@ -3,7 +3,9 @@
 //!     bench [RUNS]
 //!     bench --rows                   the numbers of the rows
 //!     bench --play ROW WHO [RUNS]    plays a row on one linker (verified or rust) and times nothing: for a profiler
+//!     bench --feeds [RUNS [ROW]]     the table of loads in pieces alone, or one of its rows, which count from 0
 
+mod feeds;
 mod floor;
 mod inputs;
 mod tables;
@@ -57,7 +59,7 @@ fn main() -> ExitCode {
     let args: Vec<String> = env::args().skip(1).collect();
     let args: Vec<&str> = args.iter().map(String::as_str).collect();
     if obey(&args).is_none() {
-        eprintln!("usage: bench [RUNS] | --rows | --play ROW verified|rust [RUNS]");
+        eprintln!("usage: bench [RUNS] | --rows | --play ROW verified|rust [RUNS] | --feeds [RUNS [ROW]]");
         return ExitCode::from(2);
     }
     ExitCode::SUCCESS
@@ -68,6 +70,9 @@ fn obey(args: &[&str]) -> Option<()> {
     match *args {
         [] => table(RUNS),
         ["--rows"] => ROWS.iter().enumerate().for_each(|(number, row)| println!("{number:2} {}", row.label)),
+        ["--feeds"] => feeds::table(RUNS, None),
+        ["--feeds", runs] => feeds::table(runs.parse().ok()?, None),
+        ["--feeds", runs, row] => feeds::table(runs.parse().ok()?, Some(row.parse().ok()?)),
         ["--play", row, who] => play(row, who, 1)?,
         ["--play", row, who, runs] => play(row, who, runs.parse().ok()?)?,
         [runs] => table(runs.parse().ok()?),
@@ -109,6 +114,7 @@ fn table(runs: usize) {
         results.push(Measured { label: row.label, sizes });
     }
     tables::print(SUBJECT.1, &results);
+    feeds::table(runs, None);
 }
 
 fn explain(runs: usize) {

@@ -2,6 +2,8 @@
 //! the papers and not from a linker.
 
 mod faults;
+mod feed_memory;
+mod feeding;
 mod lookups;
 mod memory;
 mod names;
@@ -16,7 +18,18 @@ use crate::name::Name;
 
 /// Every case.
 pub fn all() -> Vec<Case> {
-    [paper::all(), reading::all(), names::all(), faults::all(), placing::all(), lookups::all(), memory::all()].concat()
+    [
+        paper::all(),
+        reading::all(),
+        names::all(),
+        faults::all(),
+        placing::all(),
+        lookups::all(),
+        memory::all(),
+        feeding::all(),
+        feed_memory::all(),
+    ]
+    .concat()
 }
 
 /// A module around some blocks.
