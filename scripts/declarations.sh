@@ -54,25 +54,34 @@ structs() {
     sed -E 's/^# \[ repr \( C \) \] pub struct ([A-Za-z]+) \{ (.*)\}$/#[repr(C)] struct \1 = \2/; s/Answer =/ =/; s/pub //g' | tidy
 }
 
-# The number that a constant of a Rattle file is. Its names are looked up in the file, or where the file uses them from.
+# The number that a constant of a Rattle file is. Its names are looked up where their path leads, in the file, or where the file uses
+# them from.
 value() { # FILE NAME
-  local words word from crate module sum=
-  words=$(text "$1" | grep -oE "const $2 : [a-z0-9]+ = [^;]*" | sed 's/.* = //')
+  local words word from sum=
+  words=$(text "$1" | grep -oE "const $2 : [a-z0-9]+ = [^;]*" | sed 's/.* = //; s/ :: /::/g')
   if [ -z "$words" ]; then
-    from=$(text "$1" | grep -oE "use [a-z_: ]+ :: $2 ;" | sed "s/^use //; s/ :: $2 ;//; s/ :://g")
+    from=$(text "$1" | grep -oE "use [a-z_: ]+ :: $2 ;" | sed 's/^use //; s/ ;$//; s/ :: /::/g')
     [ -n "$from" ] || { echo "$1: no constant $2" >&2; return 1; }
-    read -r crate module <<<"$from"
-    value "crates/$crate/src/${module:-lib}.rt" "$2"
+    value_at "$from"
     return
   fi
   while read -r word; do
     case $word in
+    *::*) sum+=$(value_at "$word") || return ;;
     [A-Z]*) sum+=$(value "$1" "$word") || return ;;
     as | u[0-9s]*) ;;
     *) sum+=${word//_/} ;;
     esac
   done < <(tr ' ' '\n' <<<"$words")
   echo $((sum))
+}
+
+# The same for a name with its path: crate::NAME or crate::module::NAME.
+value_at() { # PATH
+  local from=${1%::*}
+  local crate=${from%%::*} module=${from#*::}
+  [ "$from" != "$crate" ] || module=lib
+  value "crates/$crate/src/$module.rt" "${1##*::}"
 }
 
 # The calls of a text of Rattle. To C a slice is a pointer and a length.
@@ -93,6 +102,7 @@ rattle_constants() {
     echo "const $name = $(value $calls "$name")"
   done
   echo "const FILE_BYTES = $(value $limits LONGEST_FILE)"
+  echo "const PIECE_BYTES = $(value $limits LONGEST_PIECE)"
   echo "const IMAGE_BYTES = $(($(value $image WORD_BYTES) * $(value $image PROGRAM_WORDS) + $(value $image END_BYTES)))"
   echo "const NO_ADDRESS = $(value $limits NO_ADDRESS)"
 }
@@ -157,7 +167,9 @@ in_rust() {
     sed -E 's/^pub (fn [a-z0-9_]+) (\(.*\) -> [A-Za-z]+)$/extern "C" \1 = \2/' | tidy
   grep -oE 'pub const [^=]* = [^;]*' <<<"$body" | grep -v '^pub const ANSWERS ' |
     sed -E 's/^pub const ([A-Z_]+) : [a-z0-9]+ = ([0-9_]+) $/const \1 = \2/; :next; s/([0-9])_([0-9]+)$/\1\2/; tnext'
-  grep -oE 'pub const ANSWERS [^=]* = [^;]*' <<<"$body" | grep -oE '"[^"]*"' | awk '{ gsub(/"/, ""); print "name " (NR - 1) " = " $0 }'
+  # a number that no answer has is "" there
+  grep -oE 'pub const ANSWERS [^=]* = [^;]*' <<<"$body" | grep -oE '"[^"]*"' |
+    awk '{ gsub(/"/, "") } $0 != "" { print "name " (NR - 1) " = " $0 }'
 }
 
 # Tells how the list of a file, on standard input, differs from the source's. Numbers are compared as texts: to C, 010 is not 10.

@@ -6,13 +6,13 @@
 #   scripts/profile.sh ROW ...    these rows
 #   scripts/profile.sh --crates   all rows in one Markdown table, by crate
 #
-# As built, nearly everything is inlined into the eight calls. So the LLVM module that `rt staticlib` hands to clang is compiled once
+# As built, nearly everything is inlined into the calls. So the LLVM module that `rt staticlib` hands to clang is compiled once
 # more, at the same -O3, with the functions of KEPT left out of line; that is about a tenth more instructions. The kit's clang is
 # watched for the module through a folder of links to the kit. memset and memcpy count an instruction a byte (`rep stosb`).
 set -eu
 cd "$(dirname "$0")/.."
 KEPT='cells::(clear|copy)|soundness::memory::refusal|soundness::cells::(names_differ|symbols_sound|words_sound|zero_between)
-|reading::read_file|reading::fill::add_part|text::lines::next_line|line::(line_answer|fields_say|test_bytes)|line::fitting::fit
+|reading::read_lines|runs::(read_records|usual_line)|reading::fill::add_part|text::lines::next_line|line::(line_answer|fields_say|test_bytes)|line::fitting::fit
 |line::fields::read_field|line::shapes::read_as|line::records::(code_line|plain_line|any_entry)|line::named::(external_line|entry_line|entry_from|name_from|number_from)|line::headers::header_line|steps::lines::step_of
 |line_reader::\w+|usual::(usual_word|plain_word)|walking::walk|index::(repeats|add_module|seek)|search::rounds::\w+|search::candidates::mark_undefined|search::modules::is_needed
 |search::visits::visit_module|order::(seek|insert|make)|state::words::high|placing::(place|place_row)|placing::tests::(survey|bad_arguments|out_of_range)|placing::names::duplicates

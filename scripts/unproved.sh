@@ -4,7 +4,7 @@
 #   scripts/profile.sh 0      first, once: the proved library's module, of which the exports are taken
 #   scripts/unproved.sh       writes target/unproved/liblinker.a and runs the benchmark over it, with 61 calls for each row
 #
-# `rt try` compiles a program unproved. So a program over the eight calls is made in a copy of the crates, the kit's clang is watched for
+# `rt try` compiles a program unproved. So a program over all the calls is made in a copy of the crates, the kit's clang is watched for
 # its module as in scripts/profile.sh, and the proved library's exports take the place of the program's `main`. `rt try` refuses
 # the crates line, reading and cells under their names, which modules of other crates have too; in the copy they have other ones. What the
 # benchmark then says of `verified` is said of the unproved library.
@@ -28,7 +28,7 @@ printf '#!/bin/sh\nn=$(ls "%s" | wc -l)\ncp module.bc "%s/$n.bc"\nexec "%s/bin/c
     > "$out/kit/on/$machine/toolchain/bin/clang"
 chmod +x "$out/kit/on/$machine/toolchain/bin/clang"
 
-# the crates once more, with a program that makes all eight calls
+# the crates once more, with a program that makes all the calls
 cp -r crates crates.txt "$out/copy"
 cd "$out/copy"
 git init -q .
@@ -41,6 +41,7 @@ cat > crates/calls/src/main.rt <<'RT'
 fn main() {
     let mut state = [0u64; linker::STATE_CELLS];
     let mut work = [0u64; linker::WORK_CELLS];
+    let mut feed = [0u64; linker::FEED_CELLS];
     let mut out = [0u8; 64];
     let text: &[u8] = b"A";
     let a = linker::lnk100_load(&mut state, &mut work, text);
@@ -51,6 +52,10 @@ fn main() {
     let f = linker::lnk100_symbols(&state, 0);
     let g = linker::lnk100_undefined(&state, 0);
     let h = linker::lnk100_end(&mut state, &mut out);
+    let i = linker::lnk100_open(&mut feed);
+    let j = linker::lnk100_feed(&mut feed, text);
+    let k = linker::lnk100_close(&mut feed, &mut state, &mut work);
+    let l = linker::lnk100_drop(&mut feed);
 }
 RT
 RATTLE_HOME=$out/kit rt try calls > "$out/log" 2>&1 || { cat "$out/log"; exit 1; }

@@ -41,6 +41,10 @@ unfolding nameIn
 no-row [] n h = refl
 no-row (a ∷ rows) n h = rw (ne-eqb (a .number) n (λ e. h .0 (sym e))) (no-row rows n (h .1))
 
-pub no-name : (n : ℕ) → NoneOf (below 22) n → answerName n ≡ []
+-- the numbers of the rows, falling: 22 is not among them
+abbrev pub rowNumbers : List ℕ
+rowNumbers = 23 ∷ below 22
+
+pub no-name : (n : ℕ) → NoneOf rowNumbers n → answerName n ≡ []
 unfolding answerName answers below turned
-no-name n h = no-row answers n (none-turned (below 22) [] n h tt)
+no-name n h = no-row answers n (none-turned rowNumbers [] n h tt)

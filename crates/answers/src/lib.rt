@@ -4,6 +4,7 @@ use rules::answer::BUFFER;
 use rules::answer::DAMAGED;
 use rules::answer::DONE;
 use rules::answer::DUPLICATE;
+use rules::answer::FEED;
 use rules::answer::FIELDS;
 use rules::answer::FROZEN;
 use rules::answer::LINE;
@@ -68,6 +69,7 @@ pub fn answer_name(number: u64) -> AnswerName
         SYMBOL => named(b"SYMBOL   ", 6),
         MARKER => named(b"MARKER   ", 6),
         TYPE => named(b"TYPE     ", 4),
+        FEED => named(b"FEED     ", 4),
         _ => named(b"         ", 0),
     }
 }

@@ -6,3 +6,4 @@ pub mod NameLaws
 pub mod ImageLaws
 pub mod StepLaws
 pub mod ReadLaws
+pub mod PieceLaws

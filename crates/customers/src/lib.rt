@@ -7,4 +7,5 @@ pub mod images;
 pub mod loads;
 pub mod lookups;
 pub mod names;
+pub mod pieces;
 pub mod refused;

@@ -5,12 +5,14 @@ mod listing;
 mod obey;
 mod page;
 mod refusals;
+mod tape;
 
 use input::Reader;
 use input::is_end;
 use input::new_reader;
 use input::read_line;
 use input::text_of;
+use linker::FEED_CELLS;
 use linker::STATE_CELLS;
 use linker::WORK_CELLS;
 use obey::obey;
@@ -54,6 +56,7 @@ fn has_operand(letter: u8) -> bool {
         b'B' => true,
         b'E' => true,
         b'F' => true,
+        b'I' => true,
         b'L' => true,
         b'S' => true,
         b'U' => true,
@@ -65,6 +68,7 @@ fn has_operand(letter: u8) -> bool {
 fn with_line(
     state: &mut [u64],
     work: &mut [u64],
+    feed: &mut [u64],
     room: &mut [u8],
     letter: u8,
     line: &[u8],
@@ -79,7 +83,23 @@ fn with_line(
         say(b"?\n");
         return;
     }
-    obey_with(state, work, room, letter, operand);
+    obey_with(state, work, feed, room, letter, operand);
+}
+
+// The line behind a command's letter is read, and the command is obeyed on it.
+fn obey_on_line(
+    state: &mut [u64],
+    work: &mut [u64],
+    feed: &mut [u64],
+    room: &mut [u8],
+    keys: &mut [u8],
+    line: &mut [u8],
+    letter: u8,
+    last: Reader,
+) -> Reader {
+    let r = read_line(keys, line, last);
+    with_line(state, work, feed, room, letter, line, r);
+    r
 }
 
 fn quit(mut r: Reader) -> Reader {
@@ -91,6 +111,7 @@ fn quit(mut r: Reader) -> Reader {
 fn turn(
     state: &mut [u64],
     work: &mut [u64],
+    feed: &mut [u64],
     room: &mut [u8],
     keys: &mut [u8],
     line: &mut [u8],
@@ -105,8 +126,7 @@ fn turn(
         return quit(r);
     }
     if has_operand(letter) {
-        let o = read_line(keys, line, r);
-        with_line(state, work, room, letter, line, o);
+        let o = obey_on_line(state, work, feed, room, keys, line, letter, r);
         say(b"*\n");
         return o;
     }
@@ -115,11 +135,18 @@ fn turn(
     r
 }
 
-fn talk(state: &mut [u64], work: &mut [u64], room: &mut [u8], keys: &mut [u8], line: &mut [u8]) {
+fn talk(
+    state: &mut [u64],
+    work: &mut [u64],
+    feed: &mut [u64],
+    room: &mut [u8],
+    keys: &mut [u8],
+    line: &mut [u8],
+) {
     let mut r = new_reader();
     let mut turns = u64::MAX;
     while turns > 0 && !r.has_quit {
-        r = turn(state, work, room, keys, line, r);
+        r = turn(state, work, feed, room, keys, line, r);
         turns -= 1;
     }
 }
@@ -137,17 +164,19 @@ const LONGEST_COMMAND: usize = 4096;
 pub fn run() {
     let mut state_cells = [0u64; STATE_CELLS];
     let mut work_cells = [0u64; WORK_CELLS];
+    let mut feed_cells = [0u64; FEED_CELLS];
     let mut room_bytes = [0u8; ROOM];
     let mut keys_bytes = [0u8; READ_AHEAD];
     let mut line_bytes = [0u8; LONGEST_COMMAND];
     let state: &mut [u64] = &mut state_cells;
     let work: &mut [u64] = &mut work_cells;
+    let feed: &mut [u64] = &mut feed_cells;
     let room: &mut [u8] = &mut room_bytes;
     let keys: &mut [u8] = &mut keys_bytes;
     let line: &mut [u8] = &mut line_bytes;
     linker::lnk100_reset(state);
     say(b"LNK100 REL. 1.00\n*\n");
-    talk(state, work, room, keys, line);
+    talk(state, work, feed, room, keys, line);
     say(b"END LNK100\n");
 }
 
@@ -156,7 +185,7 @@ pub fn start() {
     if 1 < os::arg_count() {
         io::write_all(
             libc::STDERR_FILENO,
-            b"usage: lnk100 < COMMANDS: it takes no arguments, but a command (L F B R M S U E X) or operand on each line\n",
+            b"usage: lnk100 < COMMANDS: it takes no arguments, but a command (L I F B R M S U E X) or operand on each line\n",
         );
         return;
     }

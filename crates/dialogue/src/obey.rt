@@ -1,4 +1,5 @@
-// The commands. `room` holds what a command reads or writes: the file of L, the image of E, the text of the others.
+// The commands. `room` holds what a command reads or writes: the file of L, the image of E, the text of the others. `feed` holds
+// the file of I.
 use crate::files::deliver;
 use crate::files::not_found;
 use crate::files::read_file;
@@ -12,6 +13,7 @@ use crate::page::say;
 use crate::refusals::load_refused;
 use crate::refusals::refused;
 use crate::refusals::tell;
+use crate::tape::feed_file;
 use rules::answer::DONE;
 use rules::answer::LoadAnswer;
 use text::numbers::Number;
@@ -36,6 +38,16 @@ fn load_file(state: &mut [u64], work: &mut [u64], room: &mut [u8], path: &[u8]) 
         return;
     }
     let a = linker::lnk100_load(state, work, front(room, r.length));
+    tell_load(state, room, a);
+}
+
+// The same for a file that comes in pieces.
+fn load_tape(state: &mut [u64], work: &mut [u64], feed: &mut [u64], room: &mut [u8], path: &[u8]) {
+    if !feed_file(feed, room, path) {
+        not_found();
+        return;
+    }
+    let a = linker::lnk100_close(feed, state, work);
     tell_load(state, room, a);
 }
 
@@ -103,9 +115,17 @@ fn end(state: &mut [u64], room: &mut [u8], path: &[u8]) {
 }
 
 // A command with its operand.
-pub fn obey_with(state: &mut [u64], work: &mut [u64], room: &mut [u8], letter: u8, operand: &[u8]) {
+pub fn obey_with(
+    state: &mut [u64],
+    work: &mut [u64],
+    feed: &mut [u64],
+    room: &mut [u8],
+    letter: u8,
+    operand: &[u8],
+) {
     match letter {
         b'L' => load_file(state, work, room, operand),
+        b'I' => load_tape(state, work, feed, room, operand),
         b'F' => force(state, room, operand),
         b'B' => base(state, room, operand),
         b'S' => symbols(state, room, operand),

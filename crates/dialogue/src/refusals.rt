@@ -1,4 +1,4 @@
-// The line for a refused call.
+// The line for a refused call, and the line for advice.
 use crate::page::front;
 use crate::page::put;
 use crate::page::put_number;
@@ -6,6 +6,7 @@ use crate::page::put_text;
 use crate::page::say;
 use answers::answer_name;
 use rules::answer::DONE;
+use rules::answer::FeedAnswer;
 use rules::answer::LoadAnswer;
 use rules::answer::RESET;
 
@@ -13,15 +14,6 @@ fn put_answer(page: &mut [u8], at: usize, number: u64) -> usize {
     let n = answer_name(number);
     let bytes = n.bytes;
     put_text(page, at, front(&bytes, n.length))
-}
-
-fn put_refusal(page: &mut [u8], number: u64, line: u64) -> usize {
-    let mut end = put_text(page, 0, b"F ");
-    end = put_answer(page, end, number);
-    end = put(page, end, b' ');
-    end = put_number(page, end, number);
-    end = put_text(page, end, b" LINE ");
-    put_number(page, end, line)
 }
 
 // A column of 0 is none, and is not told.
@@ -33,13 +25,23 @@ fn put_column(page: &mut [u8], at: usize, column: u64) -> usize {
     put_number(page, end, column)
 }
 
+// An answer's name and number and the place that it names, to the line's end.
+fn put_fault(page: &mut [u8], at: usize, number: u64, line: u64, column: u64) -> usize {
+    let mut end = put_answer(page, at, number);
+    end = put(page, end, b' ');
+    end = put_number(page, end, number);
+    end = put_text(page, end, b" LINE ");
+    end = put_number(page, end, line);
+    end = put_column(page, end, column);
+    put(page, end, b'\n')
+}
+
 fn tell_at(page: &mut [u8], number: u64, line: u64, column: u64) {
     if number == RESET {
         say(b"RESET!!!\n");
     }
-    let mut end = put_refusal(page, number, line);
-    end = put_column(page, end, column);
-    end = put(page, end, b'\n');
+    let mut end = put_text(page, 0, b"F ");
+    end = put_fault(page, end, number, line, column);
     say(front(page, end));
 }
 
@@ -57,4 +59,14 @@ pub fn tell(page: &mut [u8], number: u64, line: u64) {
     if number != DONE {
         refused(page, number, line);
     }
+}
+
+// The fault that a piece brought to light, if it brought one.
+pub fn advise(page: &mut [u8], a: FeedAnswer) {
+    if a.advice == 0 {
+        return;
+    }
+    let mut end = put_text(page, 0, b"ADVICE ");
+    end = put_fault(page, end, a.advice, a.line, a.column);
+    say(front(page, end));
 }

@@ -3,6 +3,7 @@ pub mod MarkerLaws
 pub mod LimitLaws
 pub mod GrowLaws
 pub mod DateLaws
+pub mod GoLaws
 pub mod LoopLaws
 pub mod ItemLaws
 pub mod SoundTables

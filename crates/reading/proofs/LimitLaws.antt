@@ -172,7 +172,7 @@ module _ (n : ℕ) (b : OpenBlock) (o : OpenModule) (s : OpenSection) where
       choose-mode (leb (b .subs) 1) _ _ _ (omega (arith, done-spends SubRecord ParameterRecord refl)) (omega arith)
 
 -- an empty line is skipped
-empty-line : (n : ℕ) (m : Mode) → stepAt n m [] ≡ Next m
+pub empty-line : (n : ℕ) (m : Mode) → stepAt n m [] ≡ Next m
 unfolding stepOf lineAnswerOver testBytes lineOver sayFieldsOver fieldsOf fieldsFrom legalFront
 empty-line n m = refl
 

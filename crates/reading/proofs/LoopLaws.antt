@@ -1,13 +1,14 @@
 -- The loop over the lines of a file: what holds before each line, and how it holds again.
-use Prim.Native.Nat.{ℕ, _+_, _≤_}
+use Prim.Native.Nat.{ℕ, suc, _+_, _≤_, _<_}
 use native.Mathlib.Omega.{arith}
-use mathlib.Core.List.{List, [], _∷_}
+use mathlib.Core.Bool.{Bool, true, false}
+use mathlib.Core.List.{List, [], _∷_, _++_}
 use mathlib.Core.Path.{_≡_, refl, sym, ap, ap₂, subst, _∙_}
-use lib.ListN.{length, drop, length-append}
-use Rattle.rules.specs.Text.{linesOf}
+use lib.ListN.{length, drop, getD, length-append}
+use lib.Seq.{drop-cons}
+use Rattle.rules.specs.Text.{LF, linesOf}
 use Rattle.rules.specs.Line.{codeWord, lineAnswer}
-use Rattle.rules.specs.Reading.{atStart, recordDone, wordPart, stepOf, stepAt, atEnd, readingOf}
-use Rattle.rules.proofs.FoldLaws.{onStep, readFrom, reading-lines}
+use Rattle.rules.specs.Reading.{atStart, recordDone, wordPart, stepOf, stepAt}
 use Rattle.rules.specs.Calls.{overwritten}
 use Rattle.rules.specs.declared.line.CodeWord.{CodeWord}
 use Rattle.rules.specs.declared.line.Expected.the-variants.{CodeRecord}
@@ -16,9 +17,11 @@ use Rattle.rules.specs.declared.line.Relocation.the-variants.{Plain}
 use Rattle.rules.specs.declared.reading.Mode.{Mode}
 use Rattle.rules.specs.declared.reading.Part.{Part}
 use Rattle.rules.specs.declared.reading.Reading.{Reading}
-use Rattle.rules.specs.declared.reading.Reading.the-variants.{Stopped}
 use Rattle.rules.specs.declared.reading.Step.{Step}
 use Rattle.rules.specs.declared.reading.Step.the-variants.{Stop, Next, Add, CloseModule, CloseSection}
+use Rattle.rules.proofs.LineEndLaws.{line-LF}
+use Rattle.runs.specs.Modes.{afterRecords}
+use Rattle.runs.specs.declared.Run.{Run}
 use Rattle.tables.specs.Cells.{cellsOf, partCells}
 use Rattle.text.specs.Scan.{part}
 use Rattle.text.specs.LineEnds.{NextLine}
@@ -28,20 +31,28 @@ use Rattle.usual.specs.Words.{WordRead}
 use Rattle.usual.specs.declared.UsualWord.{UsualWord}
 use Rattle.reading.specs.TwoTables.{Tables, empty, addPart, addModule, addSection, emit, tablesFrom, tablesOf}
 use Rattle.reading.specs.Filling.{filledOf, partsIn, rowsIn, PartRoom, RowRoom, Fills, Lent, fileRead, ReadInto}
-use Rattle.reading.specs.declared.fill.Filled.{Filled}
+use Rattle.reading.specs.Lines.{goneOn, goOn, lineIn, endedAt, reachedFrom, linesRead, RunFrom, Begins, TablesKept, ReadOn, LinesInto}
+use Rattle.reading.specs.declared.Place.{Place}
+use Rattle.reading.specs.declared.Reached.{Reached}
+use Rattle.reading.specs.declared.Reached.the-variants.{Clean, Fault}
 use Rattle.reading.specs.declared.FileRead.{FileRead}
+use Rattle.reading.specs.declared.LinesRead.{LinesRead}
+use Rattle.reading.specs.declared.fill.Filled.{Filled}
+use Rattle.reading.proofs.GoLaws.{go-records, ended-is}
+use Rattle.rules.proofs.BoolLaws.{never}
+use Rattle.rules.proofs.FoldLaws.{reading-lines}
 use Rattle.reading.proofs.GrowLaws.{Begun, empty-begun, part-begun, module-begun, section-begun}
-use Rattle.reading.proofs.LimitLaws.{weight, lines-weight, pending, spent, used, line-spends, start-pending}
+use Rattle.reading.proofs.LimitLaws.{weight, lines-weight, pending, spent, used, empty-line, line-spends, start-pending}
 
 -- ---- what holds before each line
 
-module _ (file lentParts lentRows : List ℕ) where
+module _ (file : List ℕ) (p : Place) (keep : Bool) (lentParts lentRows : List ℕ) where
   -- the lines that are left
   abbrev rest : ℕ → List (List ℕ)
   rest at = linesOf (drop at file)
 
-  -- The rest of the file decides: from here it comes to what the whole file comes to.
-  pub record Before (parts rows : List ℕ) (m : Mode) (f : Filled) (n at : ℕ) : Type 0 where
+  -- where the tables are filled: what stands in them, and what the rest of the file will add
+  pub record Tabled (parts rows : List ℕ) (m : Mode) (f : Filled) (n at : ℕ) : Type 0 where
     pub here : Tables
     pub counts : f ≡ filledOf here
     pub part-cells : parts ≡ overwritten (partsIn here) lentParts
@@ -49,214 +60,340 @@ module _ (file lentParts lentRows : List ℕ) where
     pub part-size : length parts ≡ 65536
     pub row-size : length rows ≡ 14562
     pub begun : Begun here
-    pub reading : readFrom n m (rest at) ≡ readingOf file
     pub tables : tablesFrom n m here (rest at) ≡ tablesOf file
     pub room : used here + pending m + weight (rest at) ≤ length file + 1
+
+  -- The rest of the file decides: from here it comes to what all lines come to.
+  pub record Before (parts rows : List ℕ) (m : Mode) (f : Filled) (n at : ℕ) : Type 0 where
+    pub goes : goOn n m (rest at) ≡ reachedFrom file p
     pub numbered : n ≤ at + 1
     pub ends : at ≤ length file
     pub short : length file ≤ 65536
+    pub part-length : length parts ≡ length lentParts
+    pub row-length : length rows ≡ length lentRows
+    pub tabled : keep ≡ true → Tabled parts rows m f n at
 
-  pub start :
-      {m : Mode} {f : Filled} → Lent file lentParts lentRows → m ≡ atStart → f ≡ filledOf empty
-      → Before lentParts lentRows m f 1 0
+  pub start : Begins file p keep lentParts lentRows → {f : Filled} → f ≡ filledOf empty → Before lentParts lentRows (p .mode) f (p .line) (p .at)
   unfolding tablesOf empty cellsOf used
-  start {m} {f} l d e =
+  start b {f} e =
       record {
-        here = empty;
-        counts = e;
-        part-cells = refl;
-        row-cells = refl;
-        part-size = l .part-room;
-        row-size = l .row-room;
-        begun = empty-begun;
-        reading = ap (λ (k : Mode). readFrom 1 k (linesOf file)) d ∙ sym (reading-lines file);
-        tables = ap (λ (k : Mode). tablesFrom 1 k empty (linesOf file)) d;
-        room = omega (arith, lines-weight file, ap pending d ∙ start-pending);
-        numbered = omega arith;
-        ends = omega arith;
-        short = l .short;
+        goes = refl;
+        numbered = b .numbered;
+        ends = b .inside;
+        short = b .short;
+        part-length = refl;
+        row-length = refl;
+        tabled = λ k.
+            subst (λ (q : Place). Tabled lentParts lentRows (q .mode) f (q .line) (q .at)) (sym (b .at-first k))
+            (record {
+              here = empty;
+              counts = e;
+              part-cells = refl;
+              row-cells = refl;
+              part-size = b .room k .part-room;
+              row-size = b .room k .row-room;
+              begun = empty-begun;
+              tables = refl;
+              room = omega (arith, lines-weight file, start-pending);
+            });
       }
 
   -- ---- one line
 
-  -- line n takes the step s, and the next line starts at next
-  pub record Turn (here : Tables) (n next : ℕ) (s : Step) : Type 0 where
-    pub reading : onStep n s (λ m. readFrom (n + 1) m (rest next)) ≡ readingOf file
-    pub tables : emit s here (λ m t. tablesFrom (n + 1) m t (rest next)) ≡ tablesOf file
-    pub room : used here + spent s + weight (rest next) ≤ length file + 1
-    pub numbered : n ≤ next
+  -- line n is this one, where the reading stands at m; its step is s, and the next line starts at next
+  pub record Turn (m : Mode) (n at next : ℕ) (s : Step) : Type 0 where
+    pub line : List ℕ
+    pub lines : rest at ≡ line ∷ rest next
+    pub is : s ≡ stepAt n m line
+    pub moves : at < next
     pub ends : next ≤ length file
 
-  module _ {parts rows : List ℕ} {m : Mode} {f : Filled} {n at : ℕ} (b : Before parts rows m f n at) where
+  module _ (m : Mode) (n at : ℕ) where
     pub turn :
         {r : LineSpan} → NextLine at file r → {h : Mode} → h ≡ m
         → {a : LineAnswer} → a ≡ lineAnswer (h .expected) (part at (r .stop) file)
-        → {s : Step} → s ≡ stepOf n h a → Turn (b .here) n (r .next) s
-    unfolding readFrom tablesFrom weight
-    turn {r} l {h} g {a} p {s} q =
-        let line = part at (r .stop) file in
-        let e : s ≡ stepAt n m line = q ∙ ap (stepOf n h) p ∙ ap (λ (k : Mode). stepAt n k line) g in
+        → {s : Step} → s ≡ stepOf n h a → Turn m n at (r .next) s
+    turn {r} l {h} g {a} d {s} q =
+        let text = part at (r .stop) file in
         record {
-          reading =
-              ap (λ (x : Step). onStep n x (λ k. readFrom (n + 1) k (rest (r .next)))) e
-              ∙ sym (ap (readFrom n m) (l .lines))
-              ∙ b .reading;
-          tables =
-              ap (λ (x : Step). emit x (b .here) (λ k t. tablesFrom (n + 1) k t (rest (r .next)))) e
-              ∙ sym (ap (tablesFrom n m (b .here)) (l .lines))
-              ∙ b .tables;
-          room = omega (arith, b .room, ap weight (l .lines), ap spent e, line-spends n m line);
-          numbered = omega (arith, b .numbered, l .moves);
+          line = text;
+          lines = l .lines;
+          is = q ∙ ap (stepOf n h) d ∙ ap (λ (k : Mode). stepAt n k text) g;
+          moves = l .moves;
           ends = l .ends;
         }
 
     -- the same of a code word that was read in one pass
     pub word-turn :
         {h : Mode} → h ≡ m → {w : UsualWord} → WordRead (h .expected) at file w → {x : CodeWord} → x ≡ codeWord (w .text) Plain
-        → {k : Mode} → k ≡ recordDone CodeRecord h → {p : Part} → p ≡ wordPart h x → Turn (b .here) n (w .next) (Add k p)
+        → {k : Mode} → k ≡ recordDone CodeRecord h → {q : Part} → q ≡ wordPart h x → Turn m n at (w .next) (Add k q)
     unfolding stepOf
-    word-turn {h} g {w} r u {k} e {p} f =
-        subst (λ (next : ℕ). Turn (b .here) n next (Add k p)) (r .follows)
+    word-turn {h} g {w} r u {k} e {q} f =
+        subst (λ (next : ℕ). Turn m n at next (Add k q)) (r .follows)
         (turn (r .line) g (r .says) (ap₂ Add e (f ∙ ap (wordPart h) u)))
 
-    -- the next line, after the tables became t
-    proceed :
-        {next : ℕ} {s : Step} → Turn (b .here) n next s → {ps rs : List ℕ} {k : Mode} {g : Filled} (t : Tables) → g ≡ filledOf t
-        → ps ≡ overwritten (partsIn t) lentParts → rs ≡ overwritten (rowsIn t) lentRows → length ps ≡ 65536 → length rs ≡ 14562
-        → Begun t
-        → readFrom (n + 1) k (rest next) ≡ readingOf file → tablesFrom (n + 1) k t (rest next) ≡ tablesOf file
-        → used t + pending k + weight (rest next) ≤ length file + 1 → Before ps rs k g (n + 1) next
-    proceed h t c p q x y g d e u =
+    -- and of an empty one
+    pub empty-turn : at < length file → getD file at 0 ≡ LF → Turn m n at (at + 1) (Next m)
+    empty-turn h e =
+        let one : suc at ≡ at + 1 = omega arith in
         record {
-          here = t;
-          counts = c;
-          part-cells = p;
-          row-cells = q;
-          part-size = x;
-          row-size = y;
-          begun = g;
-          reading = d;
-          tables = e;
-          room = u;
-          numbered = omega (arith, h .numbered);
-          ends = h .ends;
-          short = b .short;
+          line = [];
+          lines =
+              ap linesOf (drop-cons file at 0 h ∙ ap₂ (λ (b k : ℕ). b ∷ drop k file) e one)
+              ∙ line-LF (drop (at + 1) file);
+          is = sym (empty-line n m);
+          moves = omega arith;
+          ends = omega arith;
         }
 
+  module _ {parts rows : List ℕ} {m : Mode} {f : Filled} {n at : ℕ} (b : Before parts rows m f n at) where
+    module _ {next : ℕ} {s : Step} (t : Turn m n at next s) where
+      step-goes : goneOn n s (λ k. goOn (n + 1) k (rest next)) ≡ reachedFrom file p
+      unfolding goOn
+      step-goes = ap (λ (x : Step). goneOn n x (λ k. goOn (n + 1) k (rest next))) (t .is) ∙ sym (ap (goOn n m) (t .lines)) ∙ b .goes
+
+      module _ (d : Tabled parts rows m f n at) where
+        step-tables : emit s (d .here) (λ k h. tablesFrom (n + 1) k h (rest next)) ≡ tablesOf file
+        unfolding tablesFrom
+        step-tables =
+            ap (λ (x : Step). emit x (d .here) (λ k h. tablesFrom (n + 1) k h (rest next))) (t .is)
+            ∙ sym (ap (tablesFrom n m (d .here)) (t .lines))
+            ∙ d .tables
+
+        step-room : used (d .here) + spent s + weight (rest next) ≤ length file + 1
+        unfolding weight
+        step-room = omega (arith, d .room, ap weight (t .lines), ap spent (t .is), line-spends n m (t .line))
+
+      -- the next line, where the cells and the counts have become these
+      proceed :
+          {k : Mode} {ps rs : List ℕ} {g : Filled} → goOn (n + 1) k (rest next) ≡ reachedFrom file p
+          → length ps ≡ length parts → length rs ≡ length rows → (keep ≡ true → Tabled ps rs k g (n + 1) next)
+          → Before ps rs k g (n + 1) next
+      proceed goes-on x y d =
+          record {
+            goes = goes-on;
+            numbered = omega (arith, b .numbered, t .moves);
+            ends = t .ends;
+            short = b .short;
+            part-length = x ∙ b .part-length;
+            row-length = y ∙ b .row-length;
+            tabled = d;
+          }
+
     module _ {next : ℕ} {k : Mode} where
-      pub skipped : Turn (b .here) n next (Next k) → Before parts rows k f (n + 1) next
-      unfolding onStep emit spent
+      pub skipped : Turn m n at next (Next k) → Before parts rows k f (n + 1) next
+      unfolding goneOn emit spent
       skipped t =
-          proceed t (b .here) (b .counts) (b .part-cells) (b .row-cells) (b .part-size) (b .row-size) (b .begun)
-          (t .reading) (t .tables) (t .room)
+          proceed t (step-goes t) refl refl
+          (λ e.
+          let d = b .tabled e in
+          record {
+            here = d .here;
+            counts = d .counts;
+            part-cells = d .part-cells;
+            row-cells = d .row-cells;
+            part-size = d .part-size;
+            row-size = d .row-size;
+            begun = d .begun;
+            tables = step-tables t d;
+            room = step-room t d;
+          })
 
       pub added :
-          {p : Part} → Turn (b .here) n next (Add k p) → {g : Filled} {new : List ℕ} → Fills partsIn (addPart p) f parts g new
+          {q : Part} → Turn m n at next (Add k q) → {g : Filled} {new : List ℕ} → (keep ≡ true → Fills partsIn (addPart q) f parts g new)
           → length new ≡ length parts → Before new rows k g (n + 1) next
-      unfolding onStep emit spent addPart used
-      added {p} t h e =
-          let more = length-append (b .here .parts) (p ∷ []) in
-          proceed t (addPart p (b .here)) (h .counts (b .here) (b .counts)) (h .cells (b .here) lentParts (b .counts) (b .part-cells))
-          (b .row-cells) (e ∙ b .part-size) (b .row-size) (part-begun (b .begun) p)
-          (t .reading) (t .tables) (omega (arith, more, t .room))
+      unfolding goneOn emit spent addPart used
+      added {q} t h same =
+          proceed t (step-goes t) same refl
+          (λ e.
+          let d = b .tabled e in
+          let more = length-append (d .here .parts) (q ∷ []) in
+          record {
+            here = addPart q (d .here);
+            counts = h e .counts (d .here) (d .counts);
+            part-cells = h e .cells (d .here) lentParts (d .counts) (d .part-cells);
+            row-cells = d .row-cells;
+            part-size = same ∙ d .part-size;
+            row-size = d .row-size;
+            begun = part-begun (d .begun) q;
+            tables = step-tables t d;
+            room = omega (arith, more, step-room t d);
+          })
 
       -- one row more
-      module _ {g : Filled} {new : List ℕ} (e : length new ≡ length rows) where
+      module _ {g : Filled} {new : List ℕ} (same : length new ≡ length rows) where
         filed :
-            {s : Step} → Turn (b .here) n next s → (change : Tables → Tables) → Fills rowsIn change f rows g new
-            → change (b .here) .parts ≡ b .here .parts → length (change (b .here) .rows) ≡ length (b .here .rows) + 1
-            → Begun (change (b .here))
-            → readFrom (n + 1) k (rest next) ≡ readingOf file
-            → tablesFrom (n + 1) k (change (b .here)) (rest next) ≡ tablesOf file
-            → used (b .here) + (9 + pending k) + weight (rest next) ≤ length file + 1 → Before parts new k g (n + 1) next
+            (change : Tables → Tables) → (d : Tabled parts rows m f n at) → Fills rowsIn change f rows g new
+            → change (d .here) .parts ≡ d .here .parts → length (change (d .here) .rows) ≡ length (d .here .rows) + 1
+            → Begun (change (d .here))
+            → tablesFrom (n + 1) k (change (d .here)) (rest next) ≡ tablesOf file
+            → used (d .here) + (9 + pending k) + weight (rest next) ≤ length file + 1 → Tabled parts new k g (n + 1) next
         unfolding used
-        filed t change h same one g d c u =
-            let count = ap length same in
-            let cells = b .part-cells ∙ ap (λ (ps : List Part). overwritten (partCells ps) lentParts) (sym same) in
-            proceed t (change (b .here)) (h .counts (b .here) (b .counts)) cells
-            (h .cells (b .here) lentRows (b .counts) (b .row-cells)) (b .part-size) (e ∙ b .row-size) g
-            d c (omega arith)
+        filed change d h kept-parts one begun c u =
+            let count = ap length kept-parts in
+            record {
+              here = change (d .here);
+              counts = h .counts (d .here) (d .counts);
+              part-cells = d .part-cells ∙ ap (λ (ps : List Part). overwritten (partCells ps) lentParts) (sym kept-parts);
+              row-cells = h .cells (d .here) lentRows (d .counts) (d .row-cells);
+              part-size = d .part-size;
+              row-size = same ∙ d .row-size;
+              begun = begun;
+              tables = c;
+              room = omega arith;
+            }
 
         pub module-closed :
-            {line : ℕ} → Turn (b .here) n next (CloseModule k line)
-            → Fills rowsIn (addModule (k .section .inside) line) f rows g new → Before parts new k g (n + 1) next
-        unfolding onStep emit spent addModule
+            {line : ℕ} → Turn m n at next (CloseModule k line)
+            → (keep ≡ true → Fills rowsIn (addModule (k .section .inside) line) f rows g new) → Before parts new k g (n + 1) next
+        unfolding goneOn emit spent addModule
         module-closed {line} t h =
-            filed t (addModule (k .section .inside) line) h refl (length-append (b .here .rows) _)
-            (module-begun (b .begun) (k .section .inside) line) (t .reading) (t .tables) (t .room)
+            proceed t (step-goes t) refl same
+            (λ e.
+            let d = b .tabled e in
+            filed (addModule (k .section .inside) line) d (h e) refl (length-append (d .here .rows) _)
+            (module-begun (d .begun) (k .section .inside) line) (step-tables t d) (step-room t d))
 
         pub section-closed :
-            {line : ℕ} → Turn (b .here) n next (CloseSection k line) → Fills rowsIn (addSection line) f rows g new
+            {line : ℕ} → Turn m n at next (CloseSection k line) → (keep ≡ true → Fills rowsIn (addSection line) f rows g new)
             → Before parts new k g (n + 1) next
-        unfolding onStep emit spent addSection
+        unfolding goneOn emit spent addSection
         section-closed {line} t h =
-            filed t (addSection line) h refl (length-append (b .here .rows) _) (section-begun line (b .here))
-            (t .reading) (t .tables) (t .room)
+            proceed t (step-goes t) refl same
+            (λ e.
+            let d = b .tabled e in
+            filed (addSection line) d (h e) refl (length-append (d .here .rows) _) (section-begun line (d .here))
+            (step-tables t d) (step-room t d))
+
+    -- ---- records in a row, of which nothing is kept
+
+    pub run-on :
+        {h : Mode} → h ≡ m → {r : Run} → RunFrom file at h keep r → 0 < r .count → {k : Mode} → k ≡ afterRecords (r .count) h
+        → Before parts rows k f (n + r .count) (r .next)
+    run-on {h} g {r} u some {k} e =
+        let q = u .reads in
+        record {
+          goes =
+              ap (λ (x : Mode). goOn (n + r .count) x (rest (r .next))) e
+              ∙ ap (λ (j : ℕ). goOn (n + j) (afterRecords j h) (rest (r .next))) (sym (q .count))
+              ∙ sym (go-records (h .expected) (rest (r .next)) (q .records) n h refl (q .say) (omega (arith, q .count, q .few)))
+              ∙ sym (ap (goOn n h) (q .lines))
+              ∙ ap (λ (x : Mode). goOn n x (rest at)) g
+              ∙ b .goes;
+          numbered = omega (arith, b .numbered, q .moves);
+          ends = q .ends;
+          short = b .short;
+          part-length = b .part-length;
+          row-length = b .row-length;
+          tabled = λ t. absurd (omega (arith, u .none-kept t));
+        }
 
     -- ---- room for what a step adds
 
-    count-parts : f .parts ≡ length (b .here .parts)
-    count-parts = ap (λ (x : Filled). x .parts) (b .counts)
+    module _ (d : Tabled parts rows m f n at) where
+      count-parts : f .parts ≡ length (d .here .parts)
+      count-parts = ap (λ (x : Filled). x .parts) (d .counts)
 
-    count-rows : f .rows ≡ length (b .here .rows)
-    count-rows = ap (λ (x : Filled). x .rows) (b .counts)
+      count-rows : f .rows ≡ length (d .here .rows)
+      count-rows = ap (λ (x : Filled). x .rows) (d .counts)
 
-    pub part-room : {next : ℕ} {k : Mode} {p : Part} → Turn (b .here) n next (Add k p) → PartRoom f parts
-    unfolding spent used
-    part-room t = record { free = omega (arith, b .short, t .room, count-parts); whole = b .part-size }
+      row-room : (x y : ℕ) → used (d .here) + (9 + x) + y ≤ length file + 1 → RowRoom f rows
+      unfolding used
+      row-room x y h =
+          record {
+            free = omega (arith, b .short, count-rows);
+            whole = d .row-size;
+            few = omega (arith, b .short, count-parts);
+            open-object = omega (arith, ap (λ (x : Filled). x .object) (d .counts), count-parts, d .begun .object);
+            open-section = omega (arith, ap (λ (x : Filled). x .section) (d .counts), count-rows, d .begun .section);
+          }
 
-    row-room : (x y : ℕ) → used (b .here) + (9 + x) + y ≤ length file + 1 → RowRoom f rows
-    unfolding used
-    row-room x y h =
-        record {
-          free = omega (arith, b .short, count-rows);
-          whole = b .row-size;
-          few = omega (arith, b .short, count-parts);
-          open-object = omega (arith, ap (λ (x : Filled). x .object) (b .counts), count-parts, b .begun .object);
-          open-section = omega (arith, ap (λ (x : Filled). x .section) (b .counts), count-rows, b .begun .section);
-        }
+    module _ {next : ℕ} {k : Mode} where
+      pub part-room : {q : Part} → Turn m n at next (Add k q) → keep ≡ true → PartRoom f parts
+      unfolding spent used
+      part-room t e =
+          let d = b .tabled e in
+          record { free = omega (arith, b .short, step-room t d, count-parts d); whole = d .part-size }
 
-    pub module-room : {next : ℕ} {k : Mode} {line : ℕ} → Turn (b .here) n next (CloseModule k line) → RowRoom f rows
-    unfolding spent
-    module-room t = row-room _ _ (t .room)
+      pub module-room : {line : ℕ} → Turn m n at next (CloseModule k line) → keep ≡ true → RowRoom f rows
+      unfolding spent
+      module-room t e = row-room (b .tabled e) _ _ (step-room t (b .tabled e))
 
-    pub section-room : {next : ℕ} {k : Mode} {line : ℕ} → Turn (b .here) n next (CloseSection k line) → RowRoom f rows
-    unfolding spent
-    section-room t = row-room _ _ (t .room)
+      pub section-room : {line : ℕ} → Turn m n at next (CloseSection k line) → keep ≡ true → RowRoom f rows
+      unfolding spent
+      section-room t e = row-room (b .tabled e) _ _ (step-room t (b .tabled e))
 
     -- ---- the end
 
-    -- what stands in the tables is all, and this is the reading
-    finished :
-        {x : Reading} → x ≡ readingOf file → b .here ≡ tablesOf file
-        → ReadInto file lentParts lentRows (fileRead x f) parts rows
+    -- what stands in the tables is all
+    kept : (d : Tabled parts rows m f n at) → d .here ≡ tablesOf file → TablesKept file lentParts lentRows f parts rows
     unfolding used
-    finished d e =
+    kept d e =
         record {
-          reading = d;
-          parts = count-parts ∙ ap (λ (t : Tables). length (t .parts)) e;
-          rows = count-rows ∙ ap (λ (t : Tables). length (t .rows)) e;
-          part-cells = b .part-cells ∙ ap (λ (t : Tables). overwritten (partsIn t) lentParts) e;
-          row-cells = b .row-cells ∙ ap (λ (t : Tables). overwritten (rowsIn t) lentRows) e;
-          few-parts = omega (arith, b .short, b .room, count-parts);
-          few-rows = omega (arith, b .short, b .room, count-rows);
+          counts = d .counts ∙ ap filledOf e;
+          part-cells = d .part-cells ∙ ap (λ (t : Tables). overwritten (partsIn t) lentParts) e;
+          row-cells = d .row-cells ∙ ap (λ (t : Tables). overwritten (rowsIn t) lentRows) e;
+          few-parts = omega (arith, b .short, d .room, count-parts d);
+          few-rows = omega (arith, b .short, d .room, count-rows d);
         }
 
-    left :
-        {x : Reading} {r : FileRead} → r ≡ fileRead x f → x ≡ readingOf file → b .here ≡ tablesOf file
-        → ReadInto file lentParts lentRows r parts rows
-    left g d e = subst (λ (r : FileRead). ReadInto file lentParts lentRows r parts rows) (sym g) (finished d e)
-
     pub faulty :
-        {next j c : ℕ} → Turn (b .here) n next (Stop j c) → {x : FileRead} → x ≡ fileRead (Stopped j n c) f
-        → ReadInto file lentParts lentRows x parts rows
-    unfolding onStep emit
-    faulty t e = left e (t .reading) (t .tables)
+        {next j c : ℕ} → Turn m n at next (Stop j c) → {x : LinesRead} → x ≡ linesRead (Fault j n c) f
+        → LinesInto file p keep lentParts lentRows x parts rows
+    unfolding goneOn emit lineIn
+    faulty {j = j} {c = c} t {x} e =
+        subst (λ (r : LinesRead). LinesInto file p keep lentParts lentRows r parts rows) (sym e)
+        (record {
+          reached = record { is = step-goes t; counted = omega (arith, b .numbered, t .moves, t .ends) };
+          kept = λ q. kept (b .tabled q) (step-tables t (b .tabled q));
+        })
 
-    pub whole :
-        length file ≤ at → {x : Reading} → x ≡ atEnd n m → {r : FileRead} → r ≡ fileRead x f
-        → ReadInto file lentParts lentRows r parts rows
-    unfolding readFrom tablesFrom
-    whole h e g =
+    pub whole : length file ≤ at → LinesInto file p keep lentParts lentRows (linesRead (Clean m n) f) parts rows
+    unfolding goOn tablesFrom lineIn
+    whole h =
         let none-left = no-line at file h in
-        left g (e ∙ sym (ap (readFrom n m) none-left) ∙ b .reading) (sym (ap (tablesFrom n m (b .here)) none-left) ∙ b .tables)
+        record {
+          reached = record { is = sym (ap (goOn n m) none-left) ∙ b .goes; counted = omega (arith, b .numbered, b .ends) };
+          kept = λ q. let d = b .tabled q in kept d (sym (ap (tablesFrom n m (d .here)) none-left) ∙ d .tables);
+        }
+
+-- ---- a whole file, and lines of which nothing is kept
+
+abbrev first : Mode → Place
+first m = record { at = 0; line = 1; mode = m }
+
+module _ {file lentParts lentRows : List ℕ} {m : Mode} (at-start : m ≡ atStart) where
+  pub begins-file : Lent file lentParts lentRows → Begins file (first m) true lentParts lentRows
+  begins-file l =
+      record {
+        inside = omega arith;
+        numbered = omega arith;
+        short = l .short;
+        room = λ e. l;
+        at-first = λ e. ap first at-start;
+      }
+
+  pub file-read :
+      {read : LinesRead} {parts rows : List ℕ} → LinesInto file (first m) true lentParts lentRows read parts rows → {x : Reading} → x ≡ endedAt (read .reached)
+      → {r : FileRead} → r ≡ fileRead x (read .filled) → ReadInto file lentParts lentRows r parts rows
+  file-read {read} {parts} {rows} l {x} e {r} g =
+      let t = l .kept refl in
+      subst (λ (r : FileRead). ReadInto file lentParts lentRows r parts rows) (sym g)
+      (record {
+        reading =
+            e
+            ∙ ap endedAt (l .reached .is ∙ ap (λ (k : Mode). goOn 1 k (linesOf file)) at-start)
+            ∙ ended-is (linesOf file) 1 atStart
+            ∙ sym (reading-lines file);
+        parts = ap (λ (f : Filled). f .parts) (t .counts);
+        rows = ap (λ (f : Filled). f .rows) (t .counts);
+        part-cells = t .part-cells;
+        row-cells = t .row-cells;
+        few-parts = t .few-parts;
+        few-rows = t .few-rows;
+      })
+
+pub begins-on :
+    {file : List ℕ} {p : Place} {parts rows : List ℕ} → p .at ≤ length file → p .line ≤ p .at + 1 → length file ≤ 65536
+    → Begins file p false parts rows
+begins-on a b c = record { inside = a; numbered = b; short = c; room = λ e. never e refl; at-first = λ e. never e refl }

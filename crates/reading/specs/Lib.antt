@@ -1,2 +1,3 @@
 pub mod TwoTables
 pub mod Filling
+pub mod Lines

@@ -66,7 +66,7 @@ was-clean ls r e = go (r .fault) refl
     go (Stopped k n c) q =
         never-stopped k n c (sym q ∙ sym (ap (λ (p : ReadSoFar). p .fault) (lines-after isNameCharacter ls r k n c q)) ∙ e)
 
-line-counted : (r : ReadSoFar) (l : List ℕ) → r .fault ≡ Complete → Counted r (readLine r l)
+pub line-counted : (r : ReadSoFar) (l : List ℕ) → r .fault ≡ Complete → Counted r (readLine r l)
 unfolding readLineOver ifComplete
 line-counted r l clean =
     let step = stepAt (r .line) (r .mode) l in

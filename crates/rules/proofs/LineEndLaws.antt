@@ -1,8 +1,10 @@
 -- The lines of a text by its first byte: an LF ends a line, a CR just before an LF is dropped, any other byte widens the first line.
-use Prim.Native.Nat.{ℕ}
+use Prim.Native.Nat.{ℕ, _≤_}
+use native.Mathlib.Omega.{arith}
+use lib.ListN.{length}
 use mathlib.Core.Bool.{Bool, true, false, cond, _&&_, _||_}
-use mathlib.Core.List.{List, [], _∷_, map}
-use mathlib.Core.Path.{_≡_, refl, sym, ap, _∙_}
+use mathlib.Core.List.{List, [], _∷_, _++_, map}
+use mathlib.Core.Path.{_≡_, refl, sym, ap, ap₂, _∙_}
 use lib.Dec.{eqb}
 use Rattle.rules.specs.Text.{LF, CR, widenLine, cutLines, sameText, isLineEnd, withoutEnd, linesOf}
 use Rattle.rules.proofs.BoolLaws.{never}
@@ -99,3 +101,53 @@ lines-cons b (c ∷ rest) = go (eqb b LF) refl (cutLines (c ∷ rest)) (cut-firs
             (end-CRLF b c (f .line) e q (f .done q) p ∙ sym (ap (λ (l : List ℕ). withoutEnd (c ∷ l)) (f .done q) ∙ end-LF c q))
         at true p false q = ap (λ (l : List ℕ). l ∷ ls) (more-bytes b c (f .line) e (rw (p, q)))
         at false p u q = ap (λ (l : List ℕ). l ∷ ls) (more-bytes b c (f .line) e (rw p))
+
+-- ---- a text behind an LF
+
+-- a byte in front of a text with a line in it, that text having lines behind it or not
+module _ (b : ℕ) (lf : Bool) where
+  add-append : (ls ks : List (List ℕ)) → 1 ≤ length ls → addToLines b lf (ls ++ ks) ≡ addToLines b lf ls ++ ks
+  unfolding addToLines widenLine
+  add-append [] ks h = absurd (omega arith)
+  add-append (l ∷ ls) ks h = go (eqb b LF) (eqb b CR && lf)
+    where
+      go :
+          (t u : Bool)
+          → cond t ([] ∷ l ∷ ls ++ ks) (cond u (l ∷ ls ++ ks) ((b ∷ l) ∷ ls ++ ks))
+          ≡ cond t ([] ∷ l ∷ ls) (cond u (l ∷ ls) ((b ∷ l) ∷ ls)) ++ ks
+      go true u = refl
+      go false true = refl
+      go false false = refl
+
+  add-some : (ls : List (List ℕ)) → 1 ≤ length ls → 1 ≤ length (addToLines b lf ls)
+  unfolding addToLines widenLine
+  add-some [] h = absurd (omega arith)
+  add-some (l ∷ ls) h = go (eqb b LF) (eqb b CR && lf)
+    where
+      go : (t u : Bool) → 1 ≤ length (cond t ([] ∷ l ∷ ls) (cond u (l ∷ ls) ((b ∷ l) ∷ ls)))
+      go true u = omega arith
+      go false true = omega arith
+      go false false = omega arith
+
+starts-same : (f g : List ℕ) → startsLF (f ++ LF ∷ g) ≡ startsLF (f ++ (LF ∷ []))
+unfolding startsLF
+starts-same [] g = refl
+starts-same (b ∷ f) g = refl
+
+-- an LF alone is one empty line, in front of what follows
+pub line-LF : (g : List ℕ) → linesOf (LF ∷ g) ≡ [] ∷ linesOf g
+line-LF g = lines-cons LF g ∙ unfold addToLines in refl
+
+pub some-line : (f : List ℕ) → 1 ≤ length (linesOf (f ++ (LF ∷ [])))
+some-line [] = rw (line-LF []) (omega arith)
+some-line (b ∷ f) =
+    rw (lines-cons b (f ++ (LF ∷ []))) (add-some b (startsLF (f ++ (LF ∷ []))) (linesOf (f ++ (LF ∷ []))) (some-line f))
+
+-- the lines of a text that goes on behind an LF
+pub lines-behind-LF : (f g : List ℕ) → linesOf (f ++ LF ∷ g) ≡ linesOf (f ++ (LF ∷ [])) ++ linesOf g
+lines-behind-LF [] g = line-LF g ∙ ap (λ (ls : List (List ℕ)). ls ++ linesOf g) (sym (line-LF [] ∙ ap (_∷_ []) lines-nil))
+lines-behind-LF (b ∷ f) g =
+    lines-cons b (f ++ LF ∷ g)
+    ∙ ap₂ (addToLines b) (starts-same f g) (lines-behind-LF f g)
+    ∙ add-append b (startsLF (f ++ (LF ∷ []))) (linesOf (f ++ (LF ∷ []))) (linesOf g) (some-line f)
+    ∙ ap (λ (ls : List (List ℕ)). ls ++ linesOf g) (sym (lines-cons b (f ++ (LF ∷ []))))

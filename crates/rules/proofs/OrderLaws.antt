@@ -227,7 +227,7 @@ columns-named (holding s) true file = go (state-ends s file)
 -- ---- "each call ends with an answer from the list in document 01": whatever is lent, and in each call no number but its own
 
 -- where LOAD's work memory has its length or not
-load-answers : (m : Lent) (fits : Bool) (file : List ℕ) → (let k = load m fits file .answer .number in leb k TOO-LONG || isFileFault k) ≡ true
+pub load-answers : (m : Lent) (fits : Bool) (file : List ℕ) → (let k = load m fits file .answer .number in leb k TOO-LONG || isFileFault k) ≡ true
 unfolding loadOver loadLentOver
 load-answers m false file = refl
 load-answers wrongLength true file = refl

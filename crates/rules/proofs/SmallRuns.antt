@@ -16,6 +16,9 @@ use Rattle.rules.specs.State as State
 use Rattle.rules.specs.Lookup as Lookup
 use Rattle.rules.specs.Calls as Calls
 use Rattle.rules.specs.History as History
+use Rattle.rules.specs.Feed as Feed
+use Rattle.rules.specs.Feed.{Feed, shut, fed, soundFeed, wholeLines, faultSoFar, advice, FeedOutcome, feedOutcome, feedStopped, feedDone, openFeed, feedAnswer, pieceStopped, feedPiece, dropFeed, closeOutcome, closeStopped, closeFeed, canAnswerFeed, canAnswerClose, joined, advices, countLF}
+use Rattle.rules.specs.declared.answer.FeedAnswer.{FeedAnswer}
 use Rattle.rules.specs.History.{Call, loading, forcing, basing, resetting, askingHigh, listing, listingUndefined, ending, workFits, canAnswer, calledAll}
 use Rattle.rules.specs.Image as Image
 use Rattle.rules.specs.Image.{imageOf}
@@ -27,7 +30,7 @@ use Rattle.rules.specs.Answers.{answerName}
 use Rattle.rules.specs.Line.{lineAnswer, lineAnswerOver}
 use Rattle.rules.specs.Reading.{free, readingOf, itemsOf}
 use Rattle.rules.specs.State.{Symbol, symbol, Word, plain, unplaced, refers, Mark, unmarked, broken, frozen, State, state, fresh, positionOf, high, highest, sound, soundOver}
-use Rattle.rules.specs.Calls.{wrongLength, damaged, holding, Left, asBefore, now, Outcome, outcome, workAfter, load, force, forceOver, base, reset, memory, symbols, undefined, end}
+use Rattle.rules.specs.Calls.{wrongLength, damaged, holding, Left, asBefore, now, Outcome, outcome, workAfter, loadAnswer, loadStopped, load, force, forceOver, base, reset, memory, symbols, undefined, end}
 use Rattle.rules.specs.Lookup.{lookup, answered, readBy, lookUp, nameAt}
 use Rattle.rules.specs.declared.lookup.Lookup.{Lookup}
 use Rattle.rules.specs.declared.line.FaultKind.{FaultKind}
@@ -638,6 +641,8 @@ Names =
     × (answerName 20 ≡ bytes "MARKER")
     × (answerName 21 ≡ bytes "TYPE")
     × (answerName 22 ≡ [])
+    × (answerName 23 ≡ bytes "FEED")
+    × (answerName 24 ≡ [])
 
 -- which numbers each call can answer, by "Given when"
 abbrev Answering : Type 0
@@ -690,10 +695,62 @@ Alphabets =
     × (soundOver isLetterOrDigit (alone "A.B") ≡ false)
     × (forceOver isLetterOrDigit (holding (whole [] unplaced 0)) (bytes "A.B") ≡ called 15 asBefore)
 
+-- 02, 5/14: a load in pieces. A file whose first line is no header, and one that ends too soon.
+abbrev notHeader : List ℕ
+notHeader = bytes "X\nY\n"
+
+abbrev fromFeed : Feed → ℕ → FeedOutcome FeedAnswer
+fromFeed f n = feedPiece (holding f) (replicate n 65)
+
+-- the whole lines; what is advised, and by which piece; what is kept; the four calls
+abbrev Feeds : Type 0
+Feeds =
+    (wholeLines [] ≡ [])
+    × (wholeLines (bytes "AB") ≡ [])
+    × (wholeLines (bytes "A\nB") ≡ bytes "A\n")
+    × (wholeLines (bytes "\nA\r\n\nB") ≡ bytes "\nA\r\n\n")
+    × (countLF (bytes "A\n\nB\n") ≡ 3)
+    × (faultSoFar notHeader ≡ Stopped 20 1 1)
+    × (faultSoFar (bytes "3 ***TITLE\nA\n1 ***END\nB\n") ≡ Stopped 7 4 0)
+    × (advice [] notHeader ≡ Stopped 20 1 1)
+    × (advice (bytes "X") (bytes "\n") ≡ Stopped 20 1 1)
+    × (advice [] (bytes "X") ≡ Complete)
+    × (advice (bytes "X\n") (bytes "Y\n") ≡ Complete)
+    × (advice (bytes "3 ***TITLE\n") (bytes "?\n") ≡ Stopped 19 2 1)
+    × (advice [] (bytes "3 ***TITLE\n") ≡ Complete)
+    × (advices [] (bytes "X" ∷ [] ∷ bytes "\n" ∷ bytes "Y\n" ∷ []) ≡ Complete ∷ Complete ∷ Stopped 20 1 1 ∷ Complete ∷ [])
+    × (joined (bytes "A" ∷ replicate 513 65 ∷ [] ∷ bytes "B" ∷ []) ≡ bytes "AB")
+    × (soundFeed shut ≡ true)
+    × (soundFeed (fed (0 ∷ 255 ∷ [])) ≡ true)
+    × (soundFeed (fed (256 ∷ [])) ≡ false)
+    × (openFeed wrongLength ≡ feedStopped 1)
+    × (openFeed damaged ≡ feedStopped 2)
+    × (openFeed (holding shut) ≡ feedDone (fed []))
+    × (openFeed (holding (fed [])) ≡ feedStopped 23)
+    × (feedPiece wrongLength [] ≡ pieceStopped 1)
+    × (feedPiece damaged [] ≡ pieceStopped 2)
+    × (feedPiece (holding shut) [] ≡ pieceStopped 23)
+    × (feedPiece (holding (fed (bytes "X"))) (bytes "\nY") ≡ feedOutcome (feedAnswer 0 20 1 1) (now (fed (bytes "X\nY"))))
+    × (feedPiece (holding (fed (bytes "X\nY"))) (bytes "\n") ≡ feedOutcome (feedAnswer 0 0 0 0) (now (fed notHeader)))
+    × (fromFeed (fed []) 512 ≡ feedOutcome (feedAnswer 0 0 0 0) (now (fed (replicate 512 65))))
+    × (fromFeed (fed []) 513 ≡ pieceStopped 23)
+    × (dropFeed wrongLength ≡ feedStopped 1)
+    × (dropFeed damaged ≡ feedStopped 2)
+    × (dropFeed (holding shut) ≡ feedStopped 23)
+    × (dropFeed (holding (fed notHeader)) ≡ feedDone shut)
+    × (closeFeed wrongLength (holding fresh) true ≡ closeStopped 1)
+    × (closeFeed damaged wrongLength false ≡ closeStopped 2)
+    × (closeFeed (holding shut) damaged false ≡ closeStopped 23)
+    × (closeFeed (holding (fed notHeader)) wrongLength true ≡ closeOutcome (loadStopped 1) (now shut))
+    × (closeFeed (holding (fed notHeader)) (holding (linked broken)) true ≡ closeOutcome (loadStopped 3) (now shut))
+    × (closeFeed (holding (fed notHeader)) (holding (linked unmarked)) true ≡ closeOutcome (outcome (loadAnswer 20 1 1 0) (now (linked broken))) (now shut))
+    × (passing canAnswerFeed (upTo 25) ≡ 0 ∷ 1 ∷ 2 ∷ 23 ∷ [])
+    × (passing canAnswerClose (upTo 25) ≡ 0 ∷ 1 ∷ 2 ∷ 3 ∷ 4 ∷ 5 ∷ 6 ∷ 7 ∷ 8 ∷ 9 ∷ 10 ∷ 11 ∷ 12 ∷ 13 ∷ 14 ∷ 17 ∷ 18 ∷ 19 ∷ 20 ∷ 21 ∷ 23 ∷ [])
+
 -- ---- the claim
 
-pub small-table : Lines × Bytes × Headers × Records × CodeWords × Kinds × Leftmost × AllFaults × Told × Split × Files × Lists × Walks × Orders × Placed × Soundness × Highs × Looking × Lengths × Marks × Lookups × Names × Answering × Alphabets
-unfolding Load.takenAt Load.takenIn Load.sectionsAt Load.sectionsIn Search.count times passing History.canAnswer History.leftOver History.stateAfter History.called History.calledAll Text.bytes Text.all Text.any Text.widenLine Text.cutLines Text.withoutEnd Text.linesOf Text.legalFront Text.startsField Text.widenField Text.addToFields Text.fieldsFrom Text.fieldsOf Text.octal Text.isNumber Text.numberOf Text.isNameCharacter Text.isLetterOrDigit Text.isNameOver Text.packName Text.nameOver Text.upToZero Text.unpackName Text.isPackedOver Line.headers Line.rowIn Line.rowOf Line.markerIn Text.sameText Line.held Line.inBounds Line.readFieldOver Line.inFront Line.fitOver Line.said Line.readAsOver Line.recordShape Line.rowAt Line.firstText Line.headerShapeIn Line.codeShape Line.isOne Line.textAt Line.entryShape Line.shapeFor Line.sayFieldsOver Line.lineOver Line.faultIn Line.within Line.testBytes Line.lineAnswerOver Faults.faultNumber Faults.faultAt Faults.fieldFaults Faults.countFaults Faults.shapeFaults Faults.byteFaults Faults.lengthFaults Faults.faultsOf Faults.rank Faults.ahead Faults.aheadOf Faults.leftmost Reading.atStart Reading.expect Reading.expectRecords Reading.recordDone Reading.expectSubs Reading.titleHeader Reading.enterModule Reading.leaveModule Reading.enterSection Reading.leaveSection Reading.countEntry Reading.countExternal Reading.titleStep Reading.libraryStep Reading.libraryEndStep Reading.headerStep Reading.closingStep Reading.entryStep Reading.externalStep Reading.parameterStep Reading.subStep Reading.stepOf Reading.unread Reading.moduleDone Reading.stepped Reading.ifComplete Reading.readLineOver Reading.readLinesOver Reading.isHeader Reading.atEnd Reading.readingOver Reading.itemsOver State.noWords State.fresh State.isSymbol State.isDefined State.isUndefined State.positionOf State.undefinedOnly State.placedWords State.highestFrom State.highestWhere State.soundSymbolOver State.differentNames State.soundWord State.soundOver Placing.entriesIn Placing.externalsIn Placing.codeIn Placing.lengthIn Placing.countIn Placing.valueAt Placing.define Placing.mention Placing.defineAll Placing.mentionAll Placing.joined Placing.linked Placing.putAll Placing.noRoom Placing.overlaps Placing.badArgument Placing.badArguments Placing.outOfRange Placing.twice Placing.duplicates Placing.tableFull Placing.placingFault Placing.placed Search.noModules Search.withModule Search.visit Search.sweep Search.round Search.rounds Search.search Load.tryPlace Load.place Load.entryNames Load.isNeeded Load.takes Load.searched Load.sectionNames Load.testSection Load.walkItem Load.walkItems Load.walked Load.loadReadOver Load.loadFileOver Image.valueOf Image.completed Image.two Image.quarters Image.wordRecord Image.recordOf Image.recordsFrom Image.endRecord Image.imageOf Calls.workAfter Calls.shutBy Calls.loadStateOver Calls.loadLentOver Calls.loadOver Calls.forceStateOver Calls.forceOver Calls.baseState Calls.base Calls.reset Calls.memory Calls.symbolAt Calls.symbols Calls.undefinedAt Calls.undefined Calls.isBroken Calls.endState Calls.end Answers.answers Answers.nameIn Answers.answerName Lookup.answered Lookup.readBy Lookup.halves Lookup.lookUp upTo
+pub small-table : Lines × Bytes × Headers × Records × CodeWords × Kinds × Leftmost × AllFaults × Told × Split × Files × Lists × Walks × Orders × Placed × Soundness × Highs × Looking × Lengths × Marks × Lookups × Names × Answering × Alphabets × Feeds
+unfolding Load.takenAt Load.takenIn Load.sectionsAt Load.sectionsIn Search.count times passing History.canAnswer History.leftOver History.stateAfter History.called History.calledAll Text.bytes Text.all Text.any Text.widenLine Text.cutLines Text.withoutEnd Text.linesOf Text.legalFront Text.startsField Text.widenField Text.addToFields Text.fieldsFrom Text.fieldsOf Text.octal Text.isNumber Text.numberOf Text.isNameCharacter Text.isLetterOrDigit Text.isNameOver Text.packName Text.nameOver Text.upToZero Text.unpackName Text.isPackedOver Line.headers Line.rowIn Line.rowOf Line.markerIn Text.sameText Line.held Line.inBounds Line.readFieldOver Line.inFront Line.fitOver Line.said Line.readAsOver Line.recordShape Line.rowAt Line.firstText Line.headerShapeIn Line.codeShape Line.isOne Line.textAt Line.entryShape Line.shapeFor Line.sayFieldsOver Line.lineOver Line.faultIn Line.within Line.testBytes Line.lineAnswerOver Faults.faultNumber Faults.faultAt Faults.fieldFaults Faults.countFaults Faults.shapeFaults Faults.byteFaults Faults.lengthFaults Faults.faultsOf Faults.rank Faults.ahead Faults.aheadOf Faults.leftmost Reading.atStart Reading.expect Reading.expectRecords Reading.recordDone Reading.expectSubs Reading.titleHeader Reading.enterModule Reading.leaveModule Reading.enterSection Reading.leaveSection Reading.countEntry Reading.countExternal Reading.titleStep Reading.libraryStep Reading.libraryEndStep Reading.headerStep Reading.closingStep Reading.entryStep Reading.externalStep Reading.parameterStep Reading.subStep Reading.stepOf Reading.unread Reading.moduleDone Reading.stepped Reading.ifComplete Reading.readLineOver Reading.readLinesOver Reading.isHeader Reading.atEnd Reading.readingOver Reading.itemsOver State.noWords State.fresh State.isSymbol State.isDefined State.isUndefined State.positionOf State.undefinedOnly State.placedWords State.highestFrom State.highestWhere State.soundSymbolOver State.differentNames State.soundWord State.soundOver Placing.entriesIn Placing.externalsIn Placing.codeIn Placing.lengthIn Placing.countIn Placing.valueAt Placing.define Placing.mention Placing.defineAll Placing.mentionAll Placing.joined Placing.linked Placing.putAll Placing.noRoom Placing.overlaps Placing.badArgument Placing.badArguments Placing.outOfRange Placing.twice Placing.duplicates Placing.tableFull Placing.placingFault Placing.placed Search.noModules Search.withModule Search.visit Search.sweep Search.round Search.rounds Search.search Load.tryPlace Load.place Load.entryNames Load.isNeeded Load.takes Load.searched Load.sectionNames Load.testSection Load.walkItem Load.walkItems Load.walked Load.loadReadOver Load.loadFileOver Image.valueOf Image.completed Image.two Image.quarters Image.wordRecord Image.recordOf Image.recordsFrom Image.endRecord Image.imageOf Calls.workAfter Calls.shutBy Calls.loadStateOver Calls.loadLentOver Calls.loadOver Calls.forceStateOver Calls.forceOver Calls.baseState Calls.base Calls.reset Calls.memory Calls.symbolAt Calls.symbols Calls.undefinedAt Calls.undefined Calls.isBroken Calls.endState Calls.end Answers.answers Answers.nameIn Answers.answerName Lookup.answered Lookup.readBy Lookup.halves Lookup.lookUp upTo Feed.kept Feed.soundFeed Feed.beforeLF Feed.wholeLines Feed.faultSoFar Feed.advice Feed.openFeed Feed.advised Feed.takePiece Feed.feedPiece Feed.dropFeed Feed.closeFeed Feed.canAnswerFeed Feed.canAnswerClose Feed.joined Feed.advices Feed.countLF
 small-table = (
   (refl, refl, refl, refl, refl),
   (refl, refl, refl, refl, refl, refl, refl, refl, refl),
@@ -716,7 +773,8 @@ small-table = (
   (refl, refl, refl, refl, refl, refl, refl, refl, refl, refl, refl, refl, refl, refl, refl, refl, refl, refl, refl, refl, refl),
   (refl, refl, refl, refl, refl, refl, refl, refl, refl, refl, refl, refl, refl),
   (refl, refl, refl, refl, refl, refl, refl, refl, refl, refl, refl, refl, refl, refl, refl, refl, refl, refl),
-  (refl, refl, refl, refl, refl, refl, refl, refl, refl, refl, refl, refl, refl, refl, refl, refl, refl, refl, refl, refl, refl, refl, refl),
+  (refl, refl, refl, refl, refl, refl, refl, refl, refl, refl, refl, refl, refl, refl, refl, refl, refl, refl, refl, refl, refl, refl, refl, refl, refl),
   (refl, refl, refl, refl, refl, refl, refl, refl),
   (refl, refl, refl, refl, refl, refl, refl, refl, refl, refl, refl, refl, refl, refl, refl, refl, refl, refl, refl, refl, refl, refl, refl, refl, refl, refl),
+  (refl, refl, refl, refl, refl, refl, refl, refl, refl, refl, refl, refl, refl, refl, refl, refl, refl, refl, refl, refl, refl, refl, refl, refl, refl, refl, refl, refl, refl, refl, refl, refl, refl, refl, refl, refl, refl, refl, refl, refl, refl),
 )

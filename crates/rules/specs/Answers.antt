@@ -75,6 +75,10 @@ MARKER = 20
 abbrev pub TYPE : ℕ
 TYPE = 21
 
+-- 02, 5/14: "a longer piece, a second open, or a piece, close or drop with none open, by 23"
+abbrev pub FEED : ℕ
+FEED = 23
+
 -- a row of the table
 pub record Answer : Type 0 where
   pub number : ℕ
@@ -108,6 +112,7 @@ answers =
     ∷ answer SYMBOL "SYMBOL"
     ∷ answer MARKER "MARKER"
     ∷ answer TYPE "TYPE"
+    ∷ answer FEED "FEED"
     ∷ []
 
 -- the name in the row with a number, nothing where there is none

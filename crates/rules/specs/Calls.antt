@@ -20,16 +20,23 @@ use Rattle.rules.specs.declared.answer.EndAnswer.{EndAnswer}
 
 -- ---- what is lent
 
--- state memory as a call finds it: of another length than the fixed one, not a sound state's, or a sound state
-pub data Lent : Type 0 where
-  wrongLength : Lent
-  damaged : Lent
-  holding : State → Lent
+-- lent memory as a call finds it: of another length than the fixed one, not sound, or sound and holding something
+pub data LentOf (A : Type 0) : Type 0 where
+  wrongLength : LentOf A
+  damaged : LentOf A
+  holding : A → LentOf A
 
--- state memory as a call leaves it: as it was, or a state
-pub data Left : Type 0 where
-  asBefore : Left
-  now : State → Left
+-- lent memory as a call leaves it: as it was, or holding something
+pub data LeftOf (A : Type 0) : Type 0 where
+  asBefore : LeftOf A
+  now : A → LeftOf A
+
+-- state memory holds a state
+abbrev pub Lent : Type 0
+Lent = LentOf State
+
+abbrev pub Left : Type 0
+Left = LeftOf State
 
 -- "Work memory of the right length is zero after each call [..]; of another length it is untouched."
 unfoldable pub workAfter : ℕ → List ℕ → List ℕ

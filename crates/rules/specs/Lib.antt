@@ -11,5 +11,6 @@ pub mod Search
 pub mod Load
 pub mod Image
 pub mod Calls
+pub mod Feed
 pub mod Demand
 pub mod History

@@ -56,6 +56,10 @@ noAddress = 65535
 abbrev pub workSize : ℕ
 workSize = 65536
 
+-- document 02, 5/14: a piece of a file has "up to 512 bytes"
+abbrev pub longestPiece : ℕ
+longestPiece = 512
+
 -- document 02, 2/14: a lookup in a load reads "at most nine of the table's names"
 abbrev pub mostNames : ℕ
 mostNames = 9

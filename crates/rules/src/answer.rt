@@ -45,6 +45,8 @@ pub const MARKER: u64 = 20;
 
 pub const TYPE: u64 = 21;
 
+pub const FEED: u64 = 23;
+
 // Why a walk goes no further: an answer's number and a line of the file; both are 0 where it goes on.
 pub struct Refusal {
     pub number: u64,
@@ -62,7 +64,16 @@ pub struct LoadAnswer {
     pub rounds: u64,
 }
 
-// FORCE, BASE and RESET.
+// A piece of a file that is fed. advice, line and column are those of a fault that is told early, and 0 where none is.
+#[repr(C)]
+pub struct FeedAnswer {
+    pub number: u64,
+    pub advice: u64,
+    pub line: u64,
+    pub column: u64,
+}
+
+// FORCE, BASE and RESET; a feed's opening and its drop.
 #[repr(C)]
 pub struct CallAnswer {
     pub number: u64,

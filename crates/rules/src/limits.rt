@@ -9,6 +9,9 @@ pub const LONGEST_FILE: usize = 65536;
 
 pub const LONGEST_LINE: usize = 80;
 
+// Bytes of a piece of a file that is fed.
+pub const LONGEST_PIECE: usize = 512;
+
 pub const MOST_SYMBOLS: usize = 256;
 
 // Of a module; blocks 4 and 13 count together.

@@ -6,7 +6,7 @@ use mathlib.Core.Path.{_≡_}
 use lib.ListN.{length, getD}
 use lib.Dec.{eqb, leb}
 use Rattle.rules.specs.Text.{all, between, isNameCharacter, isPacked}
-use Rattle.rules.specs.Calls.{Lent, wrongLength, damaged, holding}
+use Rattle.rules.specs.Calls.{LentOf, wrongLength, damaged, holding}
 use Rattle.state.specs.Layout.{namesAt, valuesAt, textsAt, tagsAt, range, decode, lent}
 use Rattle.state.specs.Good.{Good}
 
@@ -79,14 +79,14 @@ wordSoundAt cells n a = wordSound n (getD cells (textsAt + a) 0) (getD cells (ta
 unfoldable pub wordsSound : List ℕ → ℕ → Bool
 wordsSound cells n = all (wordSoundAt cells n) (range 0 4096)
 
--- does what is lent hold a state
-unfoldable pub isHeld : Lent → Bool
+-- is what is lent sound
+unfoldable pub isHeld : {A : Type 0} → LentOf A → Bool
 isHeld wrongLength = false
 isHeld damaged = false
 isHeld (holding s) = true
 
--- the answer that refuses what is lent, 0 where it holds a state
-unfoldable pub refusedBy : Lent → ℕ
+-- the answer that refuses what is lent, 0 where it is sound
+unfoldable pub refusedBy : {A : Type 0} → LentOf A → ℕ
 refusedBy wrongLength = 1
 refusedBy damaged = 2
 refusedBy (holding s) = 0

@@ -76,6 +76,9 @@ named-requires-22 c κs = search needs
 named-requires-23 : tie.Need-named-requires-23
 named-requires-23 c κs = search needs
 
+named-requires-24 : tie.Need-named-requires-24
+named-requires-24 c κs = search needs
+
 returns : tie.Need-returns
 unfolding answerName nameIn answers bytes
 returns c = named-is (c .named .ensures) (c .before .before .match .keys1) refl
@@ -165,9 +168,13 @@ unfolding answerName nameIn answers bytes
 returns-22 c = named-is (c .named22 .ensures) (c .before .before .match .keys22) refl
 
 returns-23 : tie.Need-returns-23
+unfolding answerName nameIn answers bytes
+returns-23 c = named-is (c .named23 .ensures) (c .before .before .match .keys23) refl
+
+returns-24 : tie.Need-returns-24
 unfolding below
-returns-23 c =
-    let e = c .named23 .ensures in
+returns-24 c =
+    let e = c .named24 .ensures in
     ap₂ take (e .length) (e .bytes) ∙ sym (no-name _ (c .before .before .match .rest))
 
 pub answer-name-spec : {M : Type 1} → statement M
@@ -197,6 +204,7 @@ answer-name-spec =
     named-requires-21
     named-requires-22
     named-requires-23
+    named-requires-24
     returns
     returns-2
     returns-3
@@ -219,4 +227,5 @@ answer-name-spec =
     returns-20
     returns-21
     returns-22
-    returns-23)
+    returns-23
+    returns-24)

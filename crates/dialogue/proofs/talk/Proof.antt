@@ -6,10 +6,10 @@ use Rattle.dialogue.proofs.talk.Statement.{statement}
 use Rattle.dialogue.proofs.talk.Tie as tie
 
 abbrev Inv-loop : tie.InvT-loop
-Inv-loop state₀ work₀ room₀ keys₀ line₀ r₀ turns₀ state work room keys line r turns = (length state ≡ length state₀) × (length work ≡ length work₀) × (length room ≡ length room₀) × (length keys ≡ length keys₀) × (length line ≡ length line₀)
+Inv-loop state₀ work₀ feed₀ room₀ keys₀ line₀ r₀ turns₀ state work feed room keys line r turns = (length state ≡ length state₀) × (length work ≡ length work₀) × (length feed ≡ length feed₀) × (length room ≡ length room₀) × (length keys ≡ length keys₀) × (length line ≡ length line₀)
 
 abbrev μ-loop : tie.MeasureT-loop
-μ-loop state₀ work₀ room₀ keys₀ line₀ r₀ turns₀ state work room keys line r turns = turns
+μ-loop state₀ work₀ feed₀ room₀ keys₀ line₀ r₀ turns₀ state work feed room keys line r turns = turns
 
 new-reader-requires : tie.Need-new-reader-requires Inv-loop μ-loop
 new-reader-requires c κs = search needs
@@ -44,11 +44,11 @@ same-length-4 c = search needs
 same-length-5 : tie.Need-same-length-5 Inv-loop μ-loop
 same-length-5 c = search needs
 
-returns : tie.Need-returns Inv-loop μ-loop
-returns c = search needs
-
 same-length-6 : tie.Need-same-length-6 Inv-loop μ-loop
 same-length-6 c = search needs
+
+returns : tie.Need-returns Inv-loop μ-loop
+returns c = search needs
 
 same-length-7 : tie.Need-same-length-7 Inv-loop μ-loop
 same-length-7 c = search needs
@@ -61,6 +61,12 @@ same-length-9 c = search needs
 
 same-length-10 : tie.Need-same-length-10 Inv-loop μ-loop
 same-length-10 c = search needs
+
+same-length-11 : tie.Need-same-length-11 Inv-loop μ-loop
+same-length-11 c = search needs
+
+same-length-12 : tie.Need-same-length-12 Inv-loop μ-loop
+same-length-12 c = search needs
 
 returns-2 : tie.Need-returns-2 Inv-loop μ-loop
 returns-2 c = search needs
@@ -82,10 +88,12 @@ talk-spec =
     same-length-3
     same-length-4
     same-length-5
-    returns
     same-length-6
+    returns
     same-length-7
     same-length-8
     same-length-9
     same-length-10
+    same-length-11
+    same-length-12
     returns-2)

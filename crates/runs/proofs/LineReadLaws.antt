@@ -1,0 +1,142 @@
+-- A line's end, the line that ends there, and lines in a row.
+-- Assumes nothing.
+use Prim.Native.Nat.{ℕ, suc, _+_, _-_, _≤_, _<_}
+use native.Mathlib.Numerals.{add-one}
+use native.Mathlib.Omega.{arith}
+use mathlib.Core.Bool.{true}
+use mathlib.Core.List.{List, [], _∷_, _++_, append-assoc}
+use mathlib.Core.Logic.{_≢_}
+use mathlib.Core.Path.{_≡_, refl, sym, ap, ap₂, _∙_}
+use lib.ListN.{length, take, drop, length-append, take-append-drop}
+use lib.Seq.{drop-cons, drop-drop}
+use borrow.Author.Tests.{ne-eqb}
+use Rattle.rules.specs.Text.{LF, CR, all, isLegal, widenLine, linesOf, isNumber, isName}
+use Rattle.rules.specs.declared.line.Expected.{Expected}
+use Rattle.rules.specs.declared.line.Expected.the-variants.{CodeRecord, EntryRecord, ExternalRecord}
+use Rattle.rules.proofs.LineEndLaws.{addToLines, startsLF, lines-cons}
+use Rattle.rules.proofs.TestLaws.{every-add, between-low, all-first, all-rest}
+use Rattle.text.specs.Scan.{part}
+use Rattle.text.proofs.ScanLaws.{length-part}
+use Rattle.runs.specs.Runs.{Stands, FieldEnd, Spelled, Follow, NumberFollows, Numbers, LineEnded, IsRecord, LineRead, RecordsRead}
+use Rattle.runs.proofs.AnswerLaws.{Says, plain-says, linked-says, external-says, absolute-says, relocated-says}
+use Rattle.runs.proofs.SpelledLaws.{number-spelled, name-spelled, byte-spelled, follow-on}
+
+-- ---- the line's end
+
+drop-at : (i b : ℕ) (l : List ℕ) → Stands l i b → drop i l ≡ b ∷ drop (i + 1) l
+drop-at i b l s = rw add-one (drop-cons l i 0 (s .inside) ∙ ap (λ (x : ℕ). x ∷ drop (suc i) l) (s .is))
+
+ends-LF : (i : ℕ) (l : List ℕ) → Stands l i LF → linesOf (drop i l) ≡ [] ∷ linesOf (drop (i + 1) l)
+unfolding addToLines
+ends-LF i l s = ap linesOf (drop-at i LF l s) ∙ lines-cons LF (drop (i + 1) l)
+
+module _ {at end : ℕ} {l : List ℕ} (h : (at ≤ end) × (end ≤ length l)) (short : end - at ≤ 80) where
+  pub ended-LF : Stands l end LF → LineEnded l at end (end + 1)
+  ended-LF s =
+      record {
+        short = omega (arith, length-part at end l (h .1));
+        behind = omega arith;
+        inside = omega (arith, s .inside);
+        lines = ends-LF end l s;
+      }
+
+  pub ended-CRLF : Stands l end CR → Stands l (end + 1) LF → LineEnded l at end (end + 2)
+  unfolding addToLines startsLF
+  ended-CRLF s t =
+      let k : end + 1 + 1 ≡ end + 2 = omega arith in
+      record {
+        short = omega (arith, length-part at end l (h .1));
+        behind = omega arith;
+        inside = omega (arith, t .inside);
+        lines =
+            ap linesOf (drop-at end CR l s)
+            ∙ lines-cons CR (drop (end + 1) l)
+            ∙ ap₂ (addToLines CR) (ap startsLF (drop-at (end + 1) LF l t)) (ends-LF (end + 1) l t)
+            ∙ ap (λ (n : ℕ). [] ∷ linesOf (drop n l)) k;
+      }
+
+-- ---- the line
+
+-- legal bytes in front of the end of a line are the line
+line-front :
+    (t u : List ℕ) {more : List (List ℕ)} → all isLegal t ≡ true → linesOf u ≡ [] ∷ more → linesOf (t ++ u) ≡ t ∷ more
+unfolding addToLines widenLine
+line-front [] u h e = e
+line-front (b ∷ t) u h e =
+    let low = between-low 32 126 b (all-first isLegal b t h) in
+    lines-cons b (t ++ u)
+    ∙ simp (ne-eqb b LF (λ x. omega (arith, low)), ne-eqb b CR (λ x. omega (arith, low)))
+    (ap (widenLine b) (line-front t u (all-rest isLegal b t h) e))
+
+split-off : (at end : ℕ) (l : List ℕ) → at ≤ end → drop at l ≡ part at end l ++ drop end l
+unfolding part
+split-off at end l h =
+    let k : at + (end - at) ≡ end = omega arith in
+    sym (take-append-drop (end - at) (drop at l))
+    ∙ ap (_++_ (take (end - at) (drop at l))) (drop-drop (end - at) at l ∙ ap (λ (n : ℕ). drop n l) k)
+
+line-read :
+    {e : Expected} {at end r : ℕ} {l : List ℕ} {ts : List (List ℕ)} → Says e ts → Spelled l at end ts → LineEnded l at end r → LineRead e at l r
+line-read {e} {at} {end} {r} {l} says s d =
+    record {
+      line = part at end l;
+      lines = ap linesOf (split-off at end l (s .from)) ∙ line-front (part at end l) (drop end l) (s .legal) (d .lines);
+      says = says (part at end l) (s .fields 1) (s .legal) (d .short);
+      moves = omega (arith, s .from, d .behind);
+      ends = d .inside;
+    }
+
+-- ---- each record, in the order of its fields
+
+module _ {at end r : ℕ} {l : List ℕ} (d : LineEnded l at end r) where
+  pub external-read : FieldEnd isName l at end → end ≢ at → LineRead ExternalRecord at l r
+  external-read n some = line-read (external-says (n .is some)) (name-spelled n some) d
+
+  pub word-read : {m : ℕ} → FieldEnd isNumber l at m → m ≢ at → Numbers l m end 3 → LineRead CodeRecord at l r
+  word-read {m} n some ns =
+      line-read (plain-says (part at m l) (ns .texts) (n .is some) (ns .size) (ns .are)) (ns .follow .adds at _ (number-spelled n some)) d
+
+  pub linked-read :
+      {m k : ℕ} → Stands l at 42 → Numbers l (at + 1) m 4 → Follow l m (m + 2) ((48 ∷ []) ∷ []) → Follow l (m + 2) k ((53 ∷ []) ∷ [])
+      → NumberFollows l k end → LineRead CodeRecord at l r
+  linked-read star ns zero five last =
+      line-read (linked-says (ns .texts) (last .text) (ns .size) (ns .are) (last .is))
+      (follow-on (ns .follow) (follow-on zero (follow-on five (last .follow))) .adds at _ (byte-spelled at 42 l star refl)) d
+
+  module _ {m k : ℕ} (n : FieldEnd isName l at m) (some : m ≢ at) (v : NumberFollows l m k) where
+    pub absolute-read : Follow l k end ((48 ∷ []) ∷ []) → LineRead EntryRecord at l r
+    absolute-read zero =
+        line-read (absolute-says (n .is some) (v .is)) (follow-on (v .follow) zero .adds at _ (name-spelled n some)) d
+
+    pub relocated-read : {j : ℕ} → Follow l k j ((49 ∷ []) ∷ []) → NumberFollows l j end → LineRead EntryRecord at l r
+    relocated-read one last =
+        line-read (relocated-says (n .is some) (v .is) (last .is))
+        (follow-on (v .follow) (follow-on one (last .follow)) .adds at _ (name-spelled n some)) d
+
+-- ---- lines in a row
+
+pub read-none : (e : Expected) (at most : ℕ) (l : List ℕ) → at ≤ length l → RecordsRead e at l most (record { count = 0; next = at })
+read-none e at most l h =
+    record {
+      records = [];
+      lines = refl;
+      count = refl;
+      say = tt;
+      few = omega arith;
+      moves = omega arith;
+      ends = h;
+    }
+
+pub read-more :
+    {e : Expected} {at most : ℕ} {l : List ℕ} {n i r : ℕ} → RecordsRead e at l most (record { count = n; next = i }) → LineRead e i l r
+    → n < most → RecordsRead e at l most (record { count = n + 1; next = r })
+read-more {e} {at} {most} {l} {n} {i} {r} s d h =
+    record {
+      records = s .records ++ (d .line ∷ []);
+      lines = s .lines ∙ ap (_++_ (s .records)) (d .lines) ∙ sym (append-assoc (s .records) (d .line ∷ []) (linesOf (drop r l)));
+      count = length-append (s .records) (d .line ∷ []) ∙ ap (λ (k : ℕ). k + 1) (s .count);
+      say = every-add (IsRecord e) (s .records) (d .line) (s .say) (d .says);
+      few = omega arith;
+      moves = omega (arith, s .moves, d .moves);
+      ends = d .ends;
+    }

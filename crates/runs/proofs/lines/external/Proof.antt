@@ -1,0 +1,22 @@
+-- `runs::lines::external` meets its contract: a name and the line's end; 0 promises nothing.
+-- Assumes nothing.
+use mathlib.Core.Path.{refl}
+use borrow.Author.Needs.{needs}
+use Rattle.runs.proofs.LineReadLaws.{external-read}
+use Rattle.runs.proofs.lines.external.Statement.{statement}
+use Rattle.runs.proofs.lines.external.Tie as tie
+
+name-end-requires : tie.Need-name-end-requires
+name-end-requires c κs = search needs
+
+returns : tie.Need-returns
+returns c = λ some. absurd (some refl)
+
+line-end-requires : tie.Need-line-end-requires
+line-end-requires c κs = search needs
+
+returns-2 : tie.Need-returns-2
+returns-2 c = λ some. external-read (c .line-end .ensures some) (c .before .before .name-end .ensures) (c .before .if1 .left)
+
+pub external-spec : {M : Type 1} → statement M
+external-spec = tie.close (tie.spec name-end-requires returns line-end-requires returns-2)

@@ -1,0 +1,142 @@
+// Fields, found to be right without their values.
+use rules::limits::LONGEST_NAME;
+use rules::limits::MOST_DIGITS;
+use text::names::is_name_character;
+use text::scan::SPACE;
+ghost use Prim.Native.Nat.{_+_, _≤_};
+ghost use mathlib.Core.Bool.{true};
+ghost use mathlib.Core.Logic.{_≢_};
+ghost use mathlib.Core.Path.{_≡_};
+ghost use lib.ListN.{length};
+ghost use Rattle.rules.specs.Text.{space, isNumber, isName};
+ghost use Rattle.text.specs.FieldBounds.{isSpace};
+ghost use Rattle.runs.specs.Runs.{Stands, Stretch, FieldEnd, NextNumber, NumbersEnd};
+
+// Does that byte stand at i?
+pub fn has_byte(file: &[u8], i: usize, byte: u8) -> bool
+    ensures { λ r. ⌜ (r ≡ true → Stands (now (file .entry)) i byte) ⌝ }
+{
+    if i < file.len() {
+        return file[i] == byte;
+    }
+    false
+}
+
+// The byte behind a space at i: 0 where there is none.
+pub fn spaced_byte(file: &[u8], i: usize) -> u8
+    ensures { λ r. ⌜ (r ≢ 0 → Stands (now (file .entry)) i space × Stands (now (file .entry)) (i + 1) r) ⌝ }
+{
+    if !has_byte(file, i, SPACE) {
+        return 0;
+    }
+    let next = i + 1;
+    if next < file.len() {
+        return file[next];
+    }
+    0
+}
+
+// Where the number ends that starts at i: i where there is none.
+pub fn number_end(file: &[u8], i: usize) -> usize
+    requires { ⌜ i ≤ length (now file) ⌝ }
+    ensures { λ r. ⌜ FieldEnd isNumber (now (file .entry)) i r ⌝ }
+{
+    let mut end = i;
+    while end < file.len() {
+        let byte = file[end];
+        if byte < b'0' {
+            break;
+        }
+        if b'7' < byte {
+            break;
+        }
+        end += 1;
+    }
+    if MOST_DIGITS < end - i {
+        return i;
+    }
+    if end - i == MOST_DIGITS {
+        if b'1' < file[i] {
+            return i;
+        }
+    }
+    end
+}
+
+// Where the name ends that starts at i: i where there is none.
+pub fn name_end(file: &[u8], i: usize) -> usize
+    requires { ⌜ i ≤ length (now file) ⌝ }
+    ensures { λ r. ⌜ FieldEnd isName (now (file .entry)) i r ⌝ }
+{
+    let mut end = i;
+    while end < file.len() {
+        if !is_name_character(file[end]) {
+            break;
+        }
+        end += 1;
+    }
+    if end == i {
+        return i;
+    }
+    if LONGEST_NAME < end - i {
+        return i;
+    }
+    if file[i] < b'A' {
+        return i;
+    }
+    end
+}
+
+// Where the spaces end that start at i.
+fn spaces_end(file: &[u8], i: usize) -> usize
+    requires { ⌜ i ≤ length (now file) ⌝ }
+    ensures { λ r. ⌜ Stretch isSpace (now (file .entry)) i r ⌝ }
+{
+    let mut end = i;
+    while end < file.len() {
+        if file[end] != SPACE {
+            break;
+        }
+        end += 1;
+    }
+    end
+}
+
+// Where the number ends that stands behind spaces from i on: i where there is none. Most often there is one space.
+pub fn next_number(file: &[u8], i: usize) -> usize
+    requires { ⌜ i ≤ length (now file) ⌝ }
+    ensures { λ r. ⌜ NextNumber (now (file .entry)) i r ⌝ }
+{
+    if !has_byte(file, i, SPACE) {
+        return i;
+    }
+    let first = i + 1;
+    let near = number_end(file, first);
+    if near != first {
+        return near;
+    }
+    let start = spaces_end(file, first);
+    let end = number_end(file, start);
+    if end == start {
+        return i;
+    }
+    end
+}
+
+// Where so many numbers end, each behind spaces, from i on: i where they are not there.
+pub fn numbers_end(file: &[u8], i: usize, count: usize) -> usize
+    requires { ⌜ i ≤ length (now file) ⌝ }
+    ensures { λ r. ⌜ NumbersEnd (now (file .entry)) i r count ⌝ }
+{
+    let mut end = i;
+    let mut k = 0;
+    while k < count {
+        let next = next_number(file, end);
+        if next == end {
+            return i;
+        }
+        end = next;
+        k += 1;
+    }
+    end
+}

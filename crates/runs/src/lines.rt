@@ -1,0 +1,118 @@
+// One line in its usual form: where the next one starts, or 0, where the line is not in that form.
+use crate::fields::has_byte;
+use crate::fields::name_end;
+use crate::fields::next_number;
+use crate::fields::number_end;
+use crate::fields::numbers_end;
+use crate::fields::spaced_byte;
+use rules::limits::LONGEST_LINE;
+use text::scan::CR;
+use text::scan::LF;
+ghost use Prim.Native.Nat.{_≤_};
+ghost use mathlib.Core.Logic.{_≢_};
+ghost use lib.ListN.{length};
+ghost use Rattle.rules.specs.declared.line.Expected.the-variants.{CodeRecord, EntryRecord, ExternalRecord};
+ghost use Rattle.runs.specs.Runs.{LineEnded, LineRead};
+
+// The line from `at` on ends at `end`: where the next one starts.
+fn line_end(file: &[u8], at: usize, end: usize) -> usize
+    requires { ⌜ (at ≤ end) × (end ≤ length (now file)) ⌝ }
+    ensures { λ r. ⌜ (r ≢ 0 → LineEnded (now (file .entry)) at end r) ⌝ }
+{
+    if LONGEST_LINE < end - at {
+        return 0;
+    }
+    if has_byte(file, end, LF) {
+        return end + 1;
+    }
+    if !has_byte(file, end, CR) {
+        return 0;
+    }
+    if has_byte(file, end + 1, LF) {
+        return end + 2;
+    }
+    0
+}
+
+// A word that refers: an asterisk, the quarters, 0, the type, and what it refers to.
+fn linked_word(file: &[u8], at: usize) -> usize
+    requires { ⌜ at ≤ length (now file) ⌝ }
+    ensures { λ r. ⌜ (r ≢ 0 → LineRead CodeRecord at (now (file .entry)) r) ⌝ }
+{
+    if !has_byte(file, at, b'*') {
+        return 0;
+    }
+    let start = at + 1;
+    let end = numbers_end(file, start, 4);
+    if end == start {
+        return 0;
+    }
+    if spaced_byte(file, end) != b'0' {
+        return 0;
+    }
+    let zeroed = end + 2;
+    if spaced_byte(file, zeroed) != b'5' {
+        return 0;
+    }
+    let last = zeroed + 2;
+    let stop = next_number(file, last);
+    if stop == last {
+        return 0;
+    }
+    line_end(file, at, stop)
+}
+
+// Four numbers, the quarters.
+pub fn word(file: &[u8], at: usize) -> usize
+    requires { ⌜ at ≤ length (now file) ⌝ }
+    ensures { λ r. ⌜ (r ≢ 0 → LineRead CodeRecord at (now (file .entry)) r) ⌝ }
+{
+    let first = number_end(file, at);
+    if first == at {
+        return linked_word(file, at);
+    }
+    let end = numbers_end(file, first, 3);
+    if end == first {
+        return 0;
+    }
+    line_end(file, at, end)
+}
+
+pub fn external(file: &[u8], at: usize) -> usize
+    requires { ⌜ at ≤ length (now file) ⌝ }
+    ensures { λ r. ⌜ (r ≢ 0 → LineRead ExternalRecord at (now (file .entry)) r) ⌝ }
+{
+    let end = name_end(file, at);
+    if end == at {
+        return 0;
+    }
+    line_end(file, at, end)
+}
+
+// An entry: its name and value, then 0, or 1 and a number.
+pub fn entry(file: &[u8], at: usize) -> usize
+    requires { ⌜ at ≤ length (now file) ⌝ }
+    ensures { λ r. ⌜ (r ≢ 0 → LineRead EntryRecord at (now (file .entry)) r) ⌝ }
+{
+    let named = name_end(file, at);
+    if named == at {
+        return 0;
+    }
+    let end = next_number(file, named);
+    if end == named {
+        return 0;
+    }
+    let kind = spaced_byte(file, end);
+    let last = end + 2;
+    if kind == b'0' {
+        return line_end(file, at, last);
+    }
+    if kind != b'1' {
+        return 0;
+    }
+    let stop = next_number(file, last);
+    if stop == last {
+        return 0;
+    }
+    line_end(file, at, stop)
+}
