@@ -29,10 +29,11 @@ pub struct OpenSection {
     pub modules: u16,
 }
 
-// Where the reading stands between two lines, and what the next line has to be.
+// Where the reading stands between two lines, and what the next line has to be. The block stands first: it is one word of the machine
+// there, and behind a field of one byte it would lie across two, for which the machine waits at each line.
 pub struct Mode {
-    pub expected: Expected,
     pub block: OpenBlock,
+    pub expected: Expected,
     pub object: OpenModule,
     pub section: OpenSection,
 }

@@ -1,6 +1,6 @@
 -- What a line of such fields says: each field is what its place asks for, so the line is the record that was expected.
 -- Assumes nothing.
-use Prim.Native.Nat.{ℕ, zero, suc, _+_, _-_, _≤_}
+use Prim.Native.Nat.{ℕ, zero, suc, _+_, _-_, _*_, _≤_}
 use native.Mathlib.Omega.{arith}
 use mathlib.Core.Bool.{true, false}
 use mathlib.Core.List.{List, [], _∷_, _++_, map, append-nil}
@@ -16,7 +16,7 @@ use Rattle.rules.specs.declared.line.FaultKind.{FaultKind}
 use Rattle.rules.specs.declared.line.FaultKind.the-variants.{BadNumber, BadType}
 use Rattle.rules.specs.declared.line.Kind.{Kind}
 use Rattle.rules.specs.declared.line.Kind.the-variants.{Number, Name}
-use Rattle.rules.proofs.TestLaws.{Every, and-intro, and-left, and-right, between-low, all-first, all-rest}
+use Rattle.rules.proofs.TestLaws.{Every, and-intro, and-left, and-right, between-intro, between-low, all-first, all-rest}
 use Rattle.runs.specs.Runs.{textsFrom, recordOf, IsRecord}
 
 -- ---- texts against the kinds that they have to be
@@ -28,10 +28,10 @@ Held (k ∷ ks) [] = ⊥
 Held (k ∷ ks) (t ∷ ts) = ((v : ℕ) × (readField k t ≡ value v)) × Held ks ts
 
 -- the texts of a line's fields
-abbrev texts : List Field → List (List ℕ)
+abbrev pub texts : List Field → List (List ℕ)
 texts fs = map (λ (f : Field). f .text) fs
 
-fits-held : (end : ℕ) (ks : List Kind) (fs : List Field) → Held ks (texts fs) → (vs : List ℕ) × (fit end ks fs ≡ fits vs)
+pub fits-held : (end : ℕ) (ks : List Kind) (fs : List Field) → Held ks (texts fs) → (vs : List ℕ) × (fit end ks fs ≡ fits vs)
 unfolding fitOver inFront
 fits-held end [] [] h = ([], refl)
 fits-held end [] (f ∷ fs) h = absurd h
@@ -42,17 +42,17 @@ fits-held end (k ∷ ks) (f ∷ fs) h =
 
 -- ---- a field of each kind
 
-number-is : (t : List ℕ) → isNumber t ≡ true → numberOf t ≡ some (octal 0 t)
+pub number-is : (t : List ℕ) → isNumber t ≡ true → numberOf t ≡ some (octal 0 t)
 unfolding numberOf
 number-is t h = rw h
 
-bounded-held :
+pub bounded-held :
     (low high : ℕ) (k : FaultKind) (t : List ℕ) {n : ℕ} → numberOf t ≡ some n → between low high n ≡ true
     → (v : ℕ) × (readField (Number low high k) t ≡ value v)
 unfolding readFieldOver inBounds held
 bounded-held low high k t {n} e b = (n, rw (e, b))
 
-number-held : (t : List ℕ) → isNumber t ≡ true → (v : ℕ) × (readField number t ≡ value v)
+pub number-held : (t : List ℕ) → isNumber t ≡ true → (v : ℕ) × (readField number t ≡ value v)
 unfolding isNumber
 number-held t h =
     let small = and-right (all isOctal t) _ (and-right (between 1 6 (length t)) _ h) in
@@ -67,11 +67,11 @@ numbers-held zero (t ∷ ts) ks us e h g = absurd (omega arith)
 numbers-held (suc n) [] ks us e h g = absurd (omega arith)
 numbers-held (suc n) (t ∷ ts) ks us e h g = (number-held t (h .0), numbers-held n ts ks us (omega arith) (h .1) g)
 
-name-held : (t : List ℕ) → isName t ≡ true → (v : ℕ) × (readField Name t ≡ value v)
+pub name-held : (t : List ℕ) → isName t ≡ true → (v : ℕ) × (readField Name t ≡ value v)
 unfolding readFieldOver held nameOver
 name-held t h = (packName t, rw h)
 
--- the digits that a record's type can be
+-- the digits that the type of an entry can be
 zero-is : numberOf (48 ∷ []) ≡ some 0
 unfolding numberOf isNumber all octal
 zero-is = refl
@@ -80,9 +80,13 @@ one-is : numberOf (49 ∷ []) ≡ some 1
 unfolding numberOf isNumber all octal
 one-is = refl
 
-five-is : numberOf (53 ∷ []) ≡ some 5
-unfolding numberOf isNumber all octal
-five-is = refl
+-- of a word, one of 1 to 5
+type-held : (b : ℕ) → 49 ≤ b → b ≤ 53 → (v : ℕ) × (readField (Number 1 5 BadType) (b ∷ []) ≡ value v)
+unfolding isNumber all octal
+type-held b low high =
+    bounded-held 1 5 BadType (b ∷ [])
+    (number-is (b ∷ []) (and-intro refl (and-intro (and-intro (between-intro 48 55 b (omega arith) (omega arith)) refl) (le-leb (0 * 8 + (b - 48)) 65535 (omega arith)))))
+    (between-intro 1 5 (0 * 8 + (b - 48)) (omega arith) (omega arith))
 
 -- a number is no asterisk
 no-star : (t : List ℕ) → isNumber t ≡ true → sameText t (42 ∷ []) ≡ false
@@ -98,7 +102,7 @@ no-star (b ∷ rest) h =
 abbrev pub Says : Expected → List (List ℕ) → Type 0
 Says e ts = (line : List ℕ) → textsFrom 1 line ≡ ts → all isLegal line ≡ true → length line ≤ 80 → IsRecord e line
 
-legal-front : (n : ℕ) (t : List ℕ) → all isLegal t ≡ true → length t ≤ n → legalFront n t ≡ length t
+pub legal-front : (n : ℕ) (t : List ℕ) → all isLegal t ≡ true → length t ≤ n → legalFront n t ≡ length t
 unfolding legalFront
 legal-front zero [] h s = refl
 legal-front (suc n) [] h s = refl
@@ -125,7 +129,7 @@ module _ (e : Expected) (r : Record) (here : (vs : List ℕ) → recordOf (recor
 
 -- ---- words
 
-first-text : (fs : List Field) → firstText fs ≡ getD (texts fs) 0 []
+pub first-text : (fs : List Field) → firstText fs ≡ getD (texts fs) 0 []
 unfolding firstText
 first-text [] = refl
 first-text (f ∷ fs) = refl
@@ -149,14 +153,14 @@ plain-says t ts n size are =
     (λ fs same. unfold shapeFor codeShape in rw (star-is (t ∷ ts) fs same ∙ no-star t n))
 
 pub linked-says :
-    (ts : List (List ℕ)) (last : List ℕ) → length ts ≡ 4 → Every (λ t. isNumber t ≡ true) ts → isNumber last ≡ true
-    → Says CodeRecord ((42 ∷ []) ∷ (ts ++ (48 ∷ []) ∷ (53 ∷ []) ∷ last ∷ []))
+    (ts : List (List ℕ)) (b : ℕ) (last : List ℕ) → length ts ≡ 4 → Every (λ t. isNumber t ≡ true) ts → 49 ≤ b → b ≤ 53 → isNumber last ≡ true
+    → Says CodeRecord ((42 ∷ []) ∷ (ts ++ (48 ∷ []) ∷ (b ∷ []) ∷ last ∷ []))
 unfolding recordOf recordShape
-linked-says ts last size are n =
-    line-says CodeRecord linkedCode (λ vs. refl) ((42 ∷ []) ∷ (ts ++ (48 ∷ []) ∷ (53 ∷ []) ∷ last ∷ [])) (omega arith) (
+linked-says ts b last size are low high n =
+    line-says CodeRecord linkedCode (λ vs. refl) ((42 ∷ []) ∷ (ts ++ (48 ∷ []) ∷ (b ∷ []) ∷ last ∷ [])) (omega arith) (
       (0, unfold readFieldOver in refl),
-      numbers-held 4 ts (Number 0 0 BadType ∷ Number 1 5 BadType ∷ number ∷ []) ((48 ∷ []) ∷ (53 ∷ []) ∷ last ∷ []) size are
-          (bounded-held 0 0 BadType (48 ∷ []) zero-is refl, (bounded-held 1 5 BadType (53 ∷ []) five-is refl, (number-held last n, tt))),
+      numbers-held 4 ts (Number 0 0 BadType ∷ Number 1 5 BadType ∷ number ∷ []) ((48 ∷ []) ∷ (b ∷ []) ∷ last ∷ []) size are
+          (bounded-held 0 0 BadType (48 ∷ []) zero-is refl, (type-held b low high, (number-held last n, tt))),
     )
     (λ fs same. unfold shapeFor codeShape sameText in rw (star-is _ fs same))
 

@@ -15,11 +15,12 @@ use Rattle.rules.specs.declared.line.Expected.{Expected}
 use Rattle.rules.specs.declared.line.Expected.the-variants.{CodeRecord, EntryRecord, ExternalRecord}
 use Rattle.rules.proofs.LineEndLaws.{addToLines, startsLF, lines-cons}
 use Rattle.rules.proofs.TestLaws.{every-add, between-low, all-first, all-rest}
+use Rattle.text.specs.FieldBounds.{isSpace}
 use Rattle.text.specs.Scan.{part}
 use Rattle.text.proofs.ScanLaws.{length-part}
-use Rattle.runs.specs.Runs.{Stands, FieldEnd, Spelled, Follow, NumberFollows, Numbers, LineEnded, IsRecord, LineRead, RecordsRead}
+use Rattle.runs.specs.Runs.{Stands, Stretch, FieldEnd, Spelled, Follow, NumberFollows, Numbers, LineEnded, IsRecord, LineRead, RecordsRead}
 use Rattle.runs.proofs.AnswerLaws.{Says, plain-says, linked-says, external-says, absolute-says, relocated-says}
-use Rattle.runs.proofs.SpelledLaws.{number-spelled, name-spelled, byte-spelled, follow-on}
+use Rattle.runs.proofs.SpelledLaws.{number-spelled, name-spelled, byte-spelled, gap-spelled, follow-on}
 
 -- ---- the line's end
 
@@ -75,12 +76,19 @@ split-off at end l h =
     sym (take-append-drop (end - at) (drop at l))
     ∙ ap (_++_ (take (end - at) (drop at l))) (drop-drop (end - at) at l ∙ ap (λ (n : ℕ). drop n l) k)
 
+-- what is spelled in front of a line's end is the line
+pub line-stands :
+    {at end r : ℕ} {l : List ℕ} {ts : List (List ℕ)} → Spelled l at end ts → LineEnded l at end r
+    → linesOf (drop at l) ≡ part at end l ∷ linesOf (drop r l)
+line-stands {at} {end} {r} {l} s d =
+    ap linesOf (split-off at end l (s .from)) ∙ line-front (part at end l) (drop end l) (s .legal) (d .lines)
+
 line-read :
     {e : Expected} {at end r : ℕ} {l : List ℕ} {ts : List (List ℕ)} → Says e ts → Spelled l at end ts → LineEnded l at end r → LineRead e at l r
 line-read {e} {at} {end} {r} {l} says s d =
     record {
       line = part at end l;
-      lines = ap linesOf (split-off at end l (s .from)) ∙ line-front (part at end l) (drop end l) (s .legal) (d .lines);
+      lines = line-stands s d;
       says = says (part at end l) (s .fields 1) (s .legal) (d .short);
       moves = omega (arith, s .from, d .behind);
       ends = d .inside;
@@ -92,16 +100,17 @@ module _ {at end r : ℕ} {l : List ℕ} (d : LineEnded l at end r) where
   pub external-read : FieldEnd isName l at end → end ≢ at → LineRead ExternalRecord at l r
   external-read n some = line-read (external-says (n .is some)) (name-spelled n some) d
 
-  pub word-read : {m : ℕ} → FieldEnd isNumber l at m → m ≢ at → Numbers l m end 3 → LineRead CodeRecord at l r
-  word-read {m} n some ns =
-      line-read (plain-says (part at m l) (ns .texts) (n .is some) (ns .size) (ns .are)) (ns .follow .adds at _ (number-spelled n some)) d
+  pub word-read : {s m : ℕ} → Stretch isSpace l at s → FieldEnd isNumber l s m → m ≢ s → Numbers l m end 3 → LineRead CodeRecord at l r
+  word-read {s} {m} gap n some ns =
+      line-read (plain-says (part s m l) (ns .texts) (n .is some) (ns .size) (ns .are))
+      (ns .follow .adds at _ (gap-spelled gap (number-spelled n some))) d
 
   pub linked-read :
-      {m k : ℕ} → Stands l at 42 → Numbers l (at + 1) m 4 → Follow l m (m + 2) ((48 ∷ []) ∷ []) → Follow l (m + 2) k ((53 ∷ []) ∷ [])
-      → NumberFollows l k end → LineRead CodeRecord at l r
-  linked-read star ns zero five last =
-      line-read (linked-says (ns .texts) (last .text) (ns .size) (ns .are) (last .is))
-      (follow-on (ns .follow) (follow-on zero (follow-on five (last .follow))) .adds at _ (byte-spelled at 42 l star refl)) d
+      {m k b : ℕ} → Stands l at 42 → Numbers l (at + 1) m 4 → Follow l m (m + 2) ((48 ∷ []) ∷ []) → Follow l (m + 2) k ((b ∷ []) ∷ [])
+      → 49 ≤ b → b ≤ 53 → NumberFollows l k end → LineRead CodeRecord at l r
+  linked-read {b = b} star ns zero kind low high last =
+      line-read (linked-says (ns .texts) b (last .text) (ns .size) (ns .are) low high (last .is))
+      (follow-on (ns .follow) (follow-on zero (follow-on kind (last .follow))) .adds at _ (byte-spelled at 42 l star refl)) d
 
   module _ {m k : ℕ} (n : FieldEnd isName l at m) (some : m ≢ at) (v : NumberFollows l m k) where
     pub absolute-read : Follow l k end ((48 ∷ []) ∷ []) → LineRead EntryRecord at l r

@@ -12,7 +12,7 @@ use lib.Dec.{eqb}
 use borrow.Author.Tests.{not-true, eq-eqb, ne-eqb, eqb-true}
 use Rattle.rules.specs.Text.{space, all, between, isLegal, Field, startsField, widenField, addToFields, fieldsFrom, isOctal, isNumber, isLetter, isDigit, isNameCharacter, isName, isNameOver}
 use Rattle.rules.proofs.BoolLaws.{never, or-cases}
-use Rattle.rules.proofs.TestLaws.{every-add, and-left, and-right, between-low, between-wider, all-first, all-rest, all-weaken}
+use Rattle.rules.proofs.TestLaws.{every-add, and-left, and-right, between-intro, between-low, between-wider, all-first, all-rest, all-weaken}
 use Rattle.text.specs.Scan.{part}
 use Rattle.text.specs.FieldBounds.{isSpace}
 use Rattle.text.proofs.FieldLaws.{field}
@@ -151,38 +151,43 @@ byte-spelled i b l s p =
 
 -- ---- fields behind spaces
 
-module _ {i s r : ℕ} {l : List ℕ} {ts : List (List ℕ)} (gap : Stretch isSpace l i s) (some : i < s) (f : Spelled l s r ts) where
-  starts-space : part i r l ≡ space ∷ part (i + 1) r l
-  starts-space =
-      part-cons i r l (omega (arith, f .from)) (f .to)
-      ∙ ap (λ (b : ℕ). b ∷ part (i + 1) r l) (eqb-true _ space (all-part isSpace i s i l (gap .are) (omega arith) some (gap .to)))
-
+module _ {i s r : ℕ} {l : List ℕ} {ts : List (List ℕ)} (gap : Stretch isSpace l i s) (f : Spelled l s r ts) where
   texts-here : (c : ℕ) → textsFrom c (part i r l) ≡ ts
   texts-here c =
       ap (textsFrom c) (part-split i s r l (gap .from) (f .from))
       ∙ texts-gap c (part i s l) (part s r l) (gap .are)
       ∙ f .fields (c + length (part i s l))
 
-  pub spaced : Follow l i r ts
-  spaced =
-      record {
-        from = omega (arith, f .from);
-        to = f .to;
-        adds =
-            λ at front h.
-            record {
-              from = omega (arith, h .from, f .from);
-              to = f .to;
-              fields =
-                  λ c.
-                  ap (textsFrom c) (part-split at i r l (h .from) (omega (arith, f .from)) ∙ ap (_++_ (part at i l)) starts-space)
-                  ∙ texts-parted c (part at i l) (part (i + 1) r l)
-                  ∙ ap₂ _++_ (h .fields c) (ap (textsFrom (c + length (part at i l))) (sym starts-space) ∙ texts-here (c + length (part at i l)));
-              legal =
-                  all-joined isLegal at i r l (h .from) (omega (arith, f .from)) (h .legal)
-                  (all-joined isLegal i s r l (gap .from) (f .from) (all-weaken isSpace isLegal space-legal (part i s l) (gap .are)) (f .legal));
-            };
-      }
+  legal-here : all isLegal (part i r l) ≡ true
+  legal-here = all-joined isLegal i s r l (gap .from) (f .from) (all-weaken isSpace isLegal space-legal (part i s l) (gap .are)) (f .legal)
+
+  pub gap-spelled : Spelled l i r ts
+  gap-spelled = record { from = omega (arith, gap .from, f .from); to = f .to; fields = texts-here; legal = legal-here }
+
+  module _ (some : i < s) where
+    starts-space : part i r l ≡ space ∷ part (i + 1) r l
+    starts-space =
+        part-cons i r l (omega (arith, f .from)) (f .to)
+        ∙ ap (λ (b : ℕ). b ∷ part (i + 1) r l) (eqb-true _ space (all-part isSpace i s i l (gap .are) (omega arith) some (gap .to)))
+
+    pub spaced : Follow l i r ts
+    spaced =
+        record {
+          from = omega (arith, f .from);
+          to = f .to;
+          adds =
+              λ at front h.
+              record {
+                from = omega (arith, h .from, f .from);
+                to = f .to;
+                fields =
+                    λ c.
+                    ap (textsFrom c) (part-split at i r l (h .from) (omega (arith, f .from)) ∙ ap (_++_ (part at i l)) starts-space)
+                    ∙ texts-parted c (part at i l) (part (i + 1) r l)
+                    ∙ ap₂ _++_ (h .fields c) (ap (textsFrom (c + length (part at i l))) (sym starts-space) ∙ texts-here (c + length (part at i l)));
+                legal = all-joined isLegal at i r l (h .from) (omega (arith, f .from)) (h .legal) legal-here;
+              };
+        }
 
 one-space : {i : ℕ} {l : List ℕ} → Stands l i space → Stretch isSpace l i (i + 1)
 one-space {i} {l} h = stretch-step isSpace (stretch-start isSpace i l (omega (arith, h .inside))) (h .inside) (eq-eqb _ space (h .is))
@@ -193,7 +198,12 @@ pub byte-follows :
 byte-follows i b l {x} f e p =
     let k : i + 1 + 1 ≡ i + 2 = omega arith in
     let h = f (λ z. omega (arith, between-low 33 126 b p)) in
-    subst (λ (r : ℕ). Follow l i r ((b ∷ []) ∷ [])) k (spaced (one-space (h .0)) (omega arith) (byte-spelled (i + 1) b l (subst (Stands l (i + 1)) e (h .1)) p))
+    subst (λ (r : ℕ). Follow l i r ((b ∷ []) ∷ [])) k (spaced (one-space (h .0)) (byte-spelled (i + 1) b l (subst (Stands l (i + 1)) e (h .1)) p) (omega arith))
+
+-- a word's type
+pub type-follows :
+    (i : ℕ) (l : List ℕ) {x : ℕ} → (x ≢ 0 → Stands l i space × Stands l (i + 1) x) → 49 ≤ x → x ≤ 53 → Follow l i (i + 2) ((x ∷ []) ∷ [])
+type-follows i l {x} f low high = byte-follows i x l f refl (between-intro 33 126 x (omega arith) (omega arith))
 
 pub follow-on : {i m r : ℕ} {l : List ℕ} {ts us : List (List ℕ)} → Follow l i m ts → Follow l m r us → Follow l i r (ts ++ us)
 follow-on {i} {m} {r} {l} {ts} {us} f g =
@@ -209,7 +219,7 @@ number-spaced {i} {s} {r} {l} gap some n more =
     record {
       from = omega (arith, n .from);
       to = n .to;
-      is = λ x. record { text = part s r l; follow = spaced gap some (number-spelled n more); is = n .is more };
+      is = λ x. record { text = part s r l; follow = spaced gap (number-spelled n more) some; is = n .is more };
     }
 
 module _ {i : ℕ} {l : List ℕ} (h : Stands l i space) where

@@ -1,11 +1,11 @@
 -- Stretches of bytes, byte by byte; and which of them are numbers and names.
 -- Assumes nothing.
 use Prim.Native.Nat.{ℕ, suc, _+_, _-_, _*_, _^_, _≤_, _<_}
-use native.Mathlib.Nat.{mul-assoc, pow-succ', mul-le-mul, mul-le-mul-right, pow-le-pow-right}
+use native.Mathlib.Nat.{add-zero, mul-assoc, pow-succ', mul-le-mul, mul-le-mul-right, pow-le-pow-right}
 use native.Mathlib.Omega.{arith}
 use mathlib.Core.Bool.{Bool, true, false}
 use mathlib.Core.List.{List, [], _∷_, _++_}
-use mathlib.Core.Path.{_≡_, refl, sym, ap, _∙_}
+use mathlib.Core.Path.{_≡_, refl, sym, ap, subst, _∙_}
 use lib.ListN.{length, getD, take, drop}
 use lib.Seq.{take-add, drop-drop}
 use lib.Dec.{eqb}
@@ -54,6 +54,15 @@ module _ (p : ℕ → Bool) where
         to = omega arith;
         are = all-joined i e (e + 1) l (s .from) (omega arith) (s .are) (all-one e l h b);
       }
+
+  -- the same where the bytes are counted
+  pub stretch-none : (i : ℕ) (l : List ℕ) → i ≤ length l → Stretch p l i (i + 0)
+  stretch-none i l h = subst (Stretch p l i) (sym (add-zero i)) (stretch-start i l h)
+
+  pub stretch-more : (i n : ℕ) (l : List ℕ) → Stretch p l i (i + n) → i + n < length l → p (getD l (i + n) 0) ≡ true → Stretch p l i (i + (n + 1))
+  stretch-more i n l s h b =
+      let k : i + n + 1 ≡ i + (n + 1) = omega arith in
+      subst (Stretch p l i) k (stretch-step s h b)
 
 -- ---- numbers
 

@@ -8,7 +8,7 @@ ghost use mathlib.Core.Bool.{true};
 ghost use mathlib.Core.Logic.{_≢_};
 ghost use mathlib.Core.Path.{_≡_};
 ghost use lib.ListN.{length};
-ghost use Rattle.rules.specs.Text.{space, isNumber, isName};
+ghost use Rattle.rules.specs.Text.{space, isOctal, isNumber, isName};
 ghost use Rattle.text.specs.FieldBounds.{isSpace};
 ghost use Rattle.runs.specs.Runs.{Stands, Stretch, FieldEnd, NextNumber, NumbersEnd};
 
@@ -36,59 +36,67 @@ pub fn spaced_byte(file: &[u8], i: usize) -> u8
     0
 }
 
-// Where the number ends that starts at i: i where there is none.
+// Is it a digit of a number?
+fn is_octal(byte: u8) -> bool
+    ensures { λ r. ⌜ r ≡ isOctal byte ⌝ }
+{
+    b'0' <= byte && byte <= b'7'
+}
+
+// Where the number ends that starts at i, ahead of the file's end by at least as many bytes as a number has: i where there is none. A
+// seventh digit is left to whoever looks for what stands behind. The turns are so few that the compiler writes them out in a row.
+fn number_at(file: &[u8], i: usize) -> usize
+    requires { ⌜ i + 6 ≤ length (now file) ⌝ }
+    ensures { λ r. ⌜ FieldEnd isNumber (now (file .entry)) i r ⌝ }
+{
+    let mut n = 0;
+    while n < MOST_DIGITS {
+        if !is_octal(file[i + n]) {
+            return i + n;
+        }
+        n += 1;
+    }
+    if b'1' < file[i] {
+        return i;
+    }
+    i + n
+}
+
+// Where the number ends that starts at i: i where there is none, or where it is one of the file's last bytes. The line is then read as
+// every line can be.
 pub fn number_end(file: &[u8], i: usize) -> usize
     requires { ⌜ i ≤ length (now file) ⌝ }
     ensures { λ r. ⌜ FieldEnd isNumber (now (file .entry)) i r ⌝ }
 {
-    let mut end = i;
-    while end < file.len() {
-        let byte = file[end];
-        if byte < b'0' {
-            break;
-        }
-        if b'7' < byte {
-            break;
-        }
-        end += 1;
-    }
-    if MOST_DIGITS < end - i {
+    if file.len() - i < MOST_DIGITS {
         return i;
     }
-    if end - i == MOST_DIGITS {
-        if b'1' < file[i] {
-            return i;
-        }
-    }
-    end
+    number_at(file, i)
 }
 
-// Where the name ends that starts at i: i where there is none.
+// Where the name ends that starts at i: as of a number.
 pub fn name_end(file: &[u8], i: usize) -> usize
     requires { ⌜ i ≤ length (now file) ⌝ }
     ensures { λ r. ⌜ FieldEnd isName (now (file .entry)) i r ⌝ }
 {
-    let mut end = i;
-    while end < file.len() {
-        if !is_name_character(file[end]) {
-            break;
-        }
-        end += 1;
-    }
-    if end == i {
-        return i;
-    }
-    if LONGEST_NAME < end - i {
+    if file.len() - i < LONGEST_NAME {
         return i;
     }
     if file[i] < b'A' {
         return i;
     }
-    end
+    let mut n = 0;
+    while n < LONGEST_NAME {
+        if !is_name_character(file[i + n]) {
+            return i + n;
+        }
+        n += 1;
+    }
+    i + n
 }
 
 // Where the spaces end that start at i.
-fn spaces_end(file: &[u8], i: usize) -> usize
+pub fn spaces_end(file: &[u8], i: usize) -> usize
     requires { ⌜ i ≤ length (now file) ⌝ }
     ensures { λ r. ⌜ Stretch isSpace (now (file .entry)) i r ⌝ }
 {
@@ -107,11 +115,14 @@ pub fn next_number(file: &[u8], i: usize) -> usize
     requires { ⌜ i ≤ length (now file) ⌝ }
     ensures { λ r. ⌜ NextNumber (now (file .entry)) i r ⌝ }
 {
-    if !has_byte(file, i, SPACE) {
+    if file.len() - i <= MOST_DIGITS {
+        return i;
+    }
+    if file[i] != SPACE {
         return i;
     }
     let first = i + 1;
-    let near = number_end(file, first);
+    let near = number_at(file, first);
     if near != first {
         return near;
     }

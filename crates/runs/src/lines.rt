@@ -5,6 +5,7 @@ use crate::fields::next_number;
 use crate::fields::number_end;
 use crate::fields::numbers_end;
 use crate::fields::spaced_byte;
+use crate::fields::spaces_end;
 use rules::limits::LONGEST_LINE;
 use text::scan::CR;
 use text::scan::LF;
@@ -15,7 +16,7 @@ ghost use Rattle.rules.specs.declared.line.Expected.the-variants.{CodeRecord, E
 ghost use Rattle.runs.specs.Runs.{LineEnded, LineRead};
 
 // The line from `at` on ends at `end`: where the next one starts.
-fn line_end(file: &[u8], at: usize, end: usize) -> usize
+pub fn line_end(file: &[u8], at: usize, end: usize) -> usize
     requires { ⌜ (at ≤ end) × (end ≤ length (now file)) ⌝ }
     ensures { λ r. ⌜ (r ≢ 0 → LineEnded (now (file .entry)) at end r) ⌝ }
 {
@@ -34,7 +35,7 @@ fn line_end(file: &[u8], at: usize, end: usize) -> usize
     0
 }
 
-// A word that refers: an asterisk, the quarters, 0, the type, and what it refers to.
+// A word with a type: an asterisk, the quarters, 0, the type, and what it refers to.
 fn linked_word(file: &[u8], at: usize) -> usize
     requires { ⌜ at ≤ length (now file) ⌝ }
     ensures { λ r. ⌜ (r ≢ 0 → LineRead CodeRecord at (now (file .entry)) r) ⌝ }
@@ -51,7 +52,11 @@ fn linked_word(file: &[u8], at: usize) -> usize
         return 0;
     }
     let zeroed = end + 2;
-    if spaced_byte(file, zeroed) != b'5' {
+    let kind = spaced_byte(file, zeroed);
+    if kind < b'1' {
+        return 0;
+    }
+    if b'5' < kind {
         return 0;
     }
     let last = zeroed + 2;
@@ -62,13 +67,14 @@ fn linked_word(file: &[u8], at: usize) -> usize
     line_end(file, at, stop)
 }
 
-// Four numbers, the quarters.
+// Four numbers, the quarters. They may stand in columns.
 pub fn word(file: &[u8], at: usize) -> usize
     requires { ⌜ at ≤ length (now file) ⌝ }
     ensures { λ r. ⌜ (r ≢ 0 → LineRead CodeRecord at (now (file .entry)) r) ⌝ }
 {
-    let first = number_end(file, at);
-    if first == at {
+    let start = spaces_end(file, at);
+    let first = number_end(file, start);
+    if first == start {
         return linked_word(file, at);
     }
     let end = numbers_end(file, first, 3);

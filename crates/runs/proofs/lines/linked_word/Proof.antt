@@ -4,7 +4,7 @@ use native.Mathlib.Omega.{arith}
 use mathlib.Core.Path.{refl}
 use borrow.Author.Tests.{not-false}
 use borrow.Author.Needs.{needs}
-use Rattle.runs.proofs.SpelledLaws.{byte-follows}
+use Rattle.runs.proofs.SpelledLaws.{byte-follows, type-follows}
 use Rattle.runs.proofs.LineReadLaws.{linked-read}
 use Rattle.runs.proofs.lines.linked_word.Statement.{statement}
 use Rattle.runs.proofs.lines.linked_word.Tie as tie
@@ -42,22 +42,25 @@ returns-4 c = λ some. absurd (some refl)
 add-last : tie.Need-add-last
 add-last c = search needs
 
-next-number-requires : tie.Need-next-number-requires
-next-number-requires c κs = byte-follows _ 53 _ (c .before .spaced-byte2 .ensures) (c .if4 .left) refl .to
-
 returns-5 : tie.Need-returns-5
 returns-5 c = λ some. absurd (some refl)
+
+next-number-requires : tie.Need-next-number-requires
+next-number-requires c κs = type-follows _ _ (c .before .before .spaced-byte2 .ensures) (c .before .if4 .left) (c .if5 .left) .to
+
+returns-6 : tie.Need-returns-6
+returns-6 c = λ some. absurd (some refl)
 
 line-end-requires : tie.Need-line-end-requires
 line-end-requires c κs = search needs
 
-returns-6 : tie.Need-returns-6
-returns-6 c = λ some.
-    linked-read (c .line-end .ensures some) (c .before .before .before .before .before .before .before .before .before .before .has-byte .ensures (not-false _ (c .before .before .before .before .before .before .before .before .before .if1 .left)))
-    (c .before .before .before .before .before .before .before .before .numbers-end .ensures .are (c .before .before .before .before .before .before .before .if2 .left))
-    (byte-follows _ 48 _ (c .before .before .before .before .before .before .spaced-byte .ensures) (c .before .before .before .before .before .if3 .left) refl)
-    (byte-follows _ 53 _ (c .before .before .before .before .spaced-byte2 .ensures) (c .before .before .before .if4 .left) refl)
-    (c .before .before .next-number .ensures .is (c .before .if5 .left))
+returns-7 : tie.Need-returns-7
+returns-7 c = λ some.
+    linked-read (c .line-end .ensures some) (c .before .before .before .before .before .before .before .before .before .before .before .has-byte .ensures (not-false _ (c .before .before .before .before .before .before .before .before .before .before .if1 .left)))
+    (c .before .before .before .before .before .before .before .before .before .numbers-end .ensures .are (c .before .before .before .before .before .before .before .before .if2 .left))
+    (byte-follows _ 48 _ (c .before .before .before .before .before .before .before .spaced-byte .ensures) (c .before .before .before .before .before .before .if3 .left) refl)
+    (type-follows _ _ (c .before .before .before .before .before .spaced-byte2 .ensures) (c .before .before .before .before .if4 .left) (c .before .before .before .if5 .left)) (c .before .before .before .before .if4 .left) (c .before .before .before .if5 .left)
+    (c .before .before .next-number .ensures .is (c .before .if6 .left))
 
 pub linked-word-spec : {M : Type 1} → statement M
 linked-word-spec =
@@ -73,8 +76,9 @@ linked-word-spec =
     add-zeroed
     spaced-byte-requires-2
     returns-4
+    returns-5
     add-last
     next-number-requires
-    returns-5
+    returns-6
     line-end-requires
-    returns-6)
+    returns-7)
