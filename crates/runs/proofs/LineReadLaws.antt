@@ -18,9 +18,10 @@ use Rattle.rules.proofs.TestLaws.{every-add, between-low, all-first, all-rest}
 use Rattle.text.specs.FieldBounds.{isSpace}
 use Rattle.text.specs.Scan.{part}
 use Rattle.text.proofs.ScanLaws.{length-part}
-use Rattle.runs.specs.Runs.{Stands, Stretch, FieldEnd, Spelled, Follow, NumberFollows, Numbers, LineEnded, IsRecord, LineRead, RecordsRead}
+use Rattle.runs.specs.Runs.{Stands, Stretch, FieldEnd, Spelled, Follow, NumberFollows, NextNumber, Numbers, LineEnded, IsRecord, LineRead, RecordsRead}
 use Rattle.runs.proofs.AnswerLaws.{Says, plain-says, linked-says, external-says, absolute-says, relocated-says}
-use Rattle.runs.proofs.SpelledLaws.{number-spelled, name-spelled, byte-spelled, gap-spelled, follow-on}
+use Rattle.runs.proofs.SpelledLaws.{number-spelled, name-spelled, byte-spelled, gap-spelled, follow-on, numbers-start, numbers-more}
+use Rattle.runs.proofs.StretchLaws.{stretch-start}
 
 -- ---- the line's end
 
@@ -104,6 +105,13 @@ module _ {at end r : ℕ} {l : List ℕ} (d : LineEnded l at end r) where
   word-read {s} {m} gap n some ns =
       line-read (plain-says (part s m l) (ns .texts) (n .is some) (ns .size) (ns .are))
       (ns .follow .adds at _ (gap-spelled gap (number-spelled n some))) d
+
+  pub near-read :
+      {a b c : ℕ} → FieldEnd isNumber l at a → a ≢ at → NextNumber l a b → b ≢ a → NextNumber l b c → c ≢ b → NextNumber l c end → end ≢ c
+      → LineRead CodeRecord at l r
+  near-read {a} n some second s third t last u =
+      word-read (stretch-start isSpace at l (omega (arith, n .from, n .to))) n some
+      (numbers-more (numbers-more (numbers-more (numbers-start a l (n .to)) second s) third t) last u)
 
   pub linked-read :
       {m k b : ℕ} → Stands l at 42 → Numbers l (at + 1) m 4 → Follow l m (m + 2) ((48 ∷ []) ∷ []) → Follow l (m + 2) k ((b ∷ []) ∷ [])

@@ -45,9 +45,9 @@ fn is_octal(byte: u8) -> bool
 
 // Where the number ends that starts at i, ahead of the file's end by at least as many bytes as a number has: i where there is none. A
 // seventh digit is left to whoever looks for what stands behind. The turns are so few that the compiler writes them out in a row.
-fn number_at(file: &[u8], i: usize) -> usize
+pub fn number_at(file: &[u8], i: usize) -> usize
     requires { ⌜ i + 6 ≤ length (now file) ⌝ }
-    ensures { λ r. ⌜ FieldEnd isNumber (now (file .entry)) i r ⌝ }
+    ensures { λ r. ⌜ FieldEnd isNumber (now (file .entry)) i r × (r ≤ i + 6) ⌝ }
 {
     let mut n = 0;
     while n < MOST_DIGITS {
@@ -110,7 +110,39 @@ pub fn spaces_end(file: &[u8], i: usize) -> usize
     end
 }
 
-// Where the number ends that stands behind spaces from i on: i where there is none. Most often there is one space.
+// Where the number ends that stands behind one space at i, ahead of the file's end by as many bytes: i where there is none.
+pub fn near_number(file: &[u8], i: usize) -> usize
+    requires { ⌜ i + 7 ≤ length (now file) ⌝ }
+    ensures { λ r. ⌜ NextNumber (now (file .entry)) i r × (r ≤ i + 7) ⌝ }
+{
+    if file[i] != SPACE {
+        return i;
+    }
+    let start = i + 1;
+    let end = number_at(file, start);
+    if end == start {
+        return i;
+    }
+    end
+}
+
+// Where the number ends that stands behind spaces from i on: i where there is none.
+fn far_number(file: &[u8], i: usize) -> usize
+    requires { ⌜ i ≤ length (now file) ⌝ }
+    ensures { λ r. ⌜ NextNumber (now (file .entry)) i r ⌝ }
+{
+    if !has_byte(file, i, SPACE) {
+        return i;
+    }
+    let start = spaces_end(file, i + 1);
+    let end = number_end(file, start);
+    if end == start {
+        return i;
+    }
+    end
+}
+
+// The same. Most often there is one space.
 pub fn next_number(file: &[u8], i: usize) -> usize
     requires { ⌜ i ≤ length (now file) ⌝ }
     ensures { λ r. ⌜ NextNumber (now (file .entry)) i r ⌝ }
@@ -118,20 +150,11 @@ pub fn next_number(file: &[u8], i: usize) -> usize
     if file.len() - i <= MOST_DIGITS {
         return i;
     }
-    if file[i] != SPACE {
-        return i;
-    }
-    let first = i + 1;
-    let near = number_at(file, first);
-    if near != first {
+    let near = near_number(file, i);
+    if near != i {
         return near;
     }
-    let start = spaces_end(file, first);
-    let end = number_end(file, start);
-    if end == start {
-        return i;
-    }
-    end
+    far_number(file, i)
 }
 
 // Where so many numbers end, each behind spaces, from i on: i where they are not there.

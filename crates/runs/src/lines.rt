@@ -1,7 +1,9 @@
 // One line in its usual form: where the next one starts, or 0, where the line is not in that form.
 use crate::fields::has_byte;
 use crate::fields::name_end;
+use crate::fields::near_number;
 use crate::fields::next_number;
+use crate::fields::number_at;
 use crate::fields::number_end;
 use crate::fields::numbers_end;
 use crate::fields::spaced_byte;
@@ -9,11 +11,14 @@ use crate::fields::spaces_end;
 use rules::limits::LONGEST_LINE;
 use text::scan::CR;
 use text::scan::LF;
-ghost use Prim.Native.Nat.{_≤_};
+ghost use Prim.Native.Nat.{_+_, _≤_};
 ghost use mathlib.Core.Logic.{_≢_};
 ghost use lib.ListN.{length};
 ghost use Rattle.rules.specs.declared.line.Expected.the-variants.{CodeRecord, EntryRecord, ExternalRecord};
 ghost use Rattle.runs.specs.Runs.{LineEnded, LineRead};
+
+// Bytes of four numbers with a space between them, where they are longest.
+const NEAR_WORD: usize = 27;
 
 // The line from `at` on ends at `end`: where the next one starts.
 pub fn line_end(file: &[u8], at: usize, end: usize) -> usize
@@ -67,8 +72,32 @@ fn linked_word(file: &[u8], at: usize) -> usize
     line_end(file, at, stop)
 }
 
-// Four numbers, the quarters. They may stand in columns.
-pub fn word(file: &[u8], at: usize) -> usize
+// Four numbers, the quarters, with one space between them, ahead of the file's end by as many bytes as they can have.
+fn near_word(file: &[u8], at: usize) -> usize
+    requires { ⌜ at + 27 ≤ length (now file) ⌝ }
+    ensures { λ r. ⌜ (r ≢ 0 → LineRead CodeRecord at (now (file .entry)) r) ⌝ }
+{
+    let first = number_at(file, at);
+    if first == at {
+        return 0;
+    }
+    let second = near_number(file, first);
+    if second == first {
+        return 0;
+    }
+    let third = near_number(file, second);
+    if third == second {
+        return 0;
+    }
+    let last = near_number(file, third);
+    if last == third {
+        return 0;
+    }
+    line_end(file, at, last)
+}
+
+// The same in columns.
+fn far_word(file: &[u8], at: usize) -> usize
     requires { ⌜ at ≤ length (now file) ⌝ }
     ensures { λ r. ⌜ (r ≢ 0 → LineRead CodeRecord at (now (file .entry)) r) ⌝ }
 {
@@ -82,6 +111,21 @@ pub fn word(file: &[u8], at: usize) -> usize
         return 0;
     }
     line_end(file, at, end)
+}
+
+// A word of any form.
+pub fn word(file: &[u8], at: usize) -> usize
+    requires { ⌜ at ≤ length (now file) ⌝ }
+    ensures { λ r. ⌜ (r ≢ 0 → LineRead CodeRecord at (now (file .entry)) r) ⌝ }
+{
+    if file.len() - at < NEAR_WORD {
+        return far_word(file, at);
+    }
+    let near = near_word(file, at);
+    if near != 0 {
+        return near;
+    }
+    far_word(file, at)
 }
 
 pub fn external(file: &[u8], at: usize) -> usize

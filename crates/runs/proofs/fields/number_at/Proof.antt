@@ -33,7 +33,7 @@ add-result : tie.Need-add-result Inv-loop μ-loop
 add-result c = search needs
 
 returns : tie.Need-returns Inv-loop μ-loop
-returns c = number-found (c .before .before .before .before .loop .inv .1) (search needs) (λ six. absurd (search needs))
+returns c = (number-found (c .before .before .before .before .loop .inv .1) (search needs) (λ six. absurd (search needs)), search needs)
 
 add-n : tie.Need-add-n Inv-loop μ-loop
 add-n c = search needs
@@ -48,13 +48,13 @@ shared-slice-read-if2 : tie.Need-shared-slice-read-if2 Inv-loop μ-loop
 shared-slice-read-if2 c = search needs
 
 returns-2 : tie.Need-returns-2 Inv-loop μ-loop
-returns-2 c = no-field isNumber _ _ (search needs)
+returns-2 c = (no-field isNumber _ _ (search needs), search needs)
 
 add-result-2 : tie.Need-add-result-2 Inv-loop μ-loop
 add-result-2 c = search needs
 
 returns-3 : tie.Need-returns-3 Inv-loop μ-loop
-returns-3 c = number-found (c .before .before .before .loop .inv .1) (search needs) (λ six. search needs)
+returns-3 c = (number-found (c .before .before .before .loop .inv .1) (search needs) (λ six. search needs), search needs)
 
 pub number-at-spec : {M : Type 1} → statement M
 number-at-spec =

@@ -16,7 +16,7 @@ number-at-requires : tie.Need-number-at-requires
 number-at-requires c κs = search needs
 
 returns-2 : tie.Need-returns-2
-returns-2 c = search needs
+returns-2 c = c .number-at .ensures .0
 
 pub number-end-spec : {M : Type 1} → statement M
 number-end-spec = tie.close (tie.spec sub-if1 returns number-at-requires returns-2)
