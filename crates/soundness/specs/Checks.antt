@@ -1,5 +1,5 @@
 -- Soundness as tests on cells, one for each function of src/.
-use Prim.Native.Nat.{ℕ, _+_, _%_}
+use Prim.Native.Nat.{ℕ, _+_, _%_, _≤_}
 use mathlib.Core.Bool.{Bool, true, false, cond, not, _&&_, _||_}
 use mathlib.Core.List.{List}
 use mathlib.Core.Path.{_≡_}
@@ -26,6 +26,10 @@ zeroAt cells k = eqb (getD cells k 0) 0
 
 unfoldable pub zeroBetween : List ℕ → ℕ → ℕ → Bool
 zeroBetween cells a b = all (zeroAt cells) (range a b)
+
+-- those from a to b are, whichever follow
+abbrev pub ZeroOn : List ℕ → ℕ → ℕ → Type 0
+ZeroOn cells a b = (to : ℕ) → b ≤ to → zeroBetween cells b to ≡ zeroBetween cells a to
 
 -- undefined, or a value of sixteen bits
 unfoldable pub valueSound : ℕ → Bool

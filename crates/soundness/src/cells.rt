@@ -15,11 +15,12 @@ use state::layout::TEXTS;
 use state::layout::UNPLACED;
 use state::layout::VALUES;
 ghost use Prim.Native.Nat.{_+_, _<_, _≤_};
+ghost use mathlib.Core.Bool.{true};
 ghost use mathlib.Core.Path.{_≡_};
 ghost use lib.ListN.{length};
 ghost use Rattle.rules.specs.Limits.{programWords, mostSymbols};
 ghost use Rattle.state.specs.Layout.{size};
-ghost use Rattle.soundness.specs.Checks.{headerSound, zeroBetween, valueSound, symbolsSound, unlike, HasMet, Alone, namesDiffer, wordSoundAt, wordsSound};
+ghost use Rattle.soundness.specs.Checks.{headerSound, zeroBetween, ZeroOn, valueSound, symbolsSound, unlike, HasMet, Alone, namesDiffer, wordSoundAt, wordsSound};
 
 pub fn header_sound(state: &[u64]) -> bool
     requires { ⌜ length (now state) ≡ size ⌝ }
@@ -37,11 +38,39 @@ pub fn header_sound(state: &[u64]) -> bool
     state[SPARE] == 0
 }
 
+// Are the eight cells from k on zero?
+fn eight_zero(cells: &[u64], k: usize) -> bool
+    requires { ⌜ k + 8 ≤ length (now cells) ⌝ }
+    ensures { λ r. ⌜ (r ≡ true → ZeroOn (now (cells .entry)) k (k + 8)) ⌝ }
+{
+    let low = cells[k] | cells[k + 1] | cells[k + 2] | cells[k + 3];
+    let high = cells[k + 4] | cells[k + 5] | cells[k + 6] | cells[k + 7];
+    (low | high) == 0
+}
+
+// From where on cells have to be looked at one by one: those before it are zero.
+fn zeros_end(cells: &[u64], from: usize, to: usize) -> usize
+    requires { ⌜ to ≤ length (now cells) ⌝ }
+    ensures { λ r. ⌜ zeroBetween (now (cells .entry)) r to ≡ zeroBetween (now (cells .entry)) from to ⌝ }
+{
+    let mut k = from;
+    while k < to {
+        if to - k < 8 {
+            return k;
+        }
+        if !eight_zero(cells, k) {
+            return k;
+        }
+        k += 8;
+    }
+    k
+}
+
 pub fn zero_between(state: &[u64], from: usize, to: usize) -> bool
     requires { ⌜ to ≤ length (now state) ⌝ }
     ensures { λ r. ⌜ r ≡ zeroBetween (now (state .entry)) from to ⌝ }
 {
-    let mut k = from;
+    let mut k = zeros_end(state, from, to);
     while k < to {
         if state[k] != 0 {
             return false;

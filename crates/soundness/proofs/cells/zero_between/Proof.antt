@@ -13,8 +13,11 @@ Inv-loop state from to k₀ k = zeroBetween state k to ≡ zeroBetween state fro
 abbrev μ-loop : tie.MeasureT-loop
 μ-loop state from to k₀ k = to - k
 
+zeros-end-requires : tie.Need-zeros-end-requires Inv-loop μ-loop
+zeros-end-requires c κs = c .before .pre
+
 loop-holds : tie.Need-loop-holds Inv-loop μ-loop
-loop-holds c = refl
+loop-holds c = c .zeros-end .ensures
 
 mul-if1 : tie.Need-mul-if1 Inv-loop μ-loop
 mul-if1 c = omega arith
@@ -24,7 +27,7 @@ shared-slice-read-if1 c = omega arith
 
 returns : tie.Need-returns Inv-loop μ-loop
 unfolding zeroBetween
-returns c = each-stop (zeroAt (c .before .before .before .before .args .state .now)) _ _ _ (c .before .before .before .loop .inv) (omega arith) (ne-eqb _ 0 (c .if1 .taken))
+returns c = each-stop (zeroAt (c .before .before .before .before .before .before .args .state .now)) _ _ _ (c .before .before .before .loop .inv) (omega arith) (ne-eqb _ 0 (c .if1 .taken))
 
 add-k : tie.Need-add-k Inv-loop μ-loop
 add-k c = omega arith
@@ -34,11 +37,11 @@ loop-less c = omega arith
 
 loop-again : tie.Need-loop-again Inv-loop μ-loop
 unfolding zeroBetween
-loop-again c = each-on (zeroAt (c .before .before .before .before .args .state .now)) _ _ _ (c .before .before .before .loop .inv) (omega arith) (eq-eqb _ 0 (c .if1 .left))
+loop-again c = each-on (zeroAt (c .before .before .before .before .before .before .args .state .now)) _ _ _ (c .before .before .before .loop .inv) (omega arith) (eq-eqb _ 0 (c .if1 .left))
 
 returns-2 : tie.Need-returns-2 Inv-loop μ-loop
 unfolding zeroBetween
-returns-2 c = each-end (zeroAt (c .before .before .args .state .now)) _ _ _ (c .before .loop .inv) (omega arith)
+returns-2 c = each-end (zeroAt (c .before .before .before .before .args .state .now)) _ _ _ (c .before .loop .inv) (omega arith)
 
 pub zero-between-spec : {M : Type 1} → statement M
 zero-between-spec =
@@ -46,6 +49,7 @@ zero-between-spec =
     (tie.spec
     Inv-loop
     μ-loop
+    zeros-end-requires
     loop-holds
     mul-if1
     shared-slice-read-if1
