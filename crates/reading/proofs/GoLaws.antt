@@ -21,7 +21,7 @@ use Rattle.runs.specs.Runs.{IsRecord, RecordsRead}
 use Rattle.runs.specs.declared.Run.{Run}
 use Rattle.rules.proofs.BoolLaws.{never}
 use Rattle.runs.specs.Modes.{oneDone, afterRecords, roomFor}
-use Rattle.runs.proofs.ModeLaws.{record-step, room-behind, after-front}
+use Rattle.runs.proofs.ModeLaws.{Does, adds, goes, record-step, room-behind, after-front}
 use Rattle.reading.specs.Lines.{goneOn, goOn, told, endedAt, RunFrom}
 use Rattle.reading.specs.declared.Reached.{Reached}
 use Rattle.reading.specs.declared.Reached.the-variants.{Clean, Fault}
@@ -121,11 +121,16 @@ a-run {file} {at} m k {most} e {r} q =
     }
 
 module _ (e : Expected) (more : List (List ℕ)) where
+  -- a record's step, whatever it does, leads on
+  leads : (n : ℕ) (m : Mode) (s : Step) (go : Mode → Reached) → Does m s → goneOn n s go ≡ go (oneDone m)
+  unfolding goneOn
+  leads n m s go (adds p q) = ap (λ (x : Step). goneOn n x go) q
+  leads n m s go (goes q) = ap (λ (x : Step). goneOn n x go) q
+
   one-record : (l : List ℕ) (ls : List (List ℕ)) (n : ℕ) (m : Mode) → m .expected ≡ e → IsRecord e l → 1 ≤ roomFor m → goOn n m (l ∷ ls) ≡ goOn (n + 1) (oneDone m) ls
-  unfolding goOn goneOn
+  unfolding goOn
   one-record l ls n m w s h =
-      let step = record-step n m l (subst (λ (x : Expected). IsRecord x l) (sym w) s) h in
-      ap (λ (x : Step). goneOn n x (λ k. goOn (n + 1) k ls)) (step .is)
+      leads n m (stepAt n m l) (λ k. goOn (n + 1) k ls) (record-step n m l (subst (λ (x : Expected). IsRecord x l) (sym w) s) h)
 
   pub go-records : (ls : List (List ℕ)) (n : ℕ) (m : Mode) → m .expected ≡ e → Every (IsRecord e) ls → length ls ≤ roomFor m → goOn n m (ls ++ more) ≡ goOn (n + length ls) (afterRecords (length ls) m) more
   unfolding afterRecords

@@ -9,9 +9,9 @@ use mathlib.Core.Path.{_≡_, refl, sym, ap, subst, _∙_}
 use lib.ListN.{length, getD, replicate, List·getD-map}
 use borrow.Author.Tests.{ne-eqb, le-leb}
 use Rattle.rules.specs.Text.{all, between, sameText, isLegal, legalFront, Field, fieldsOf, octal, isOctal, isNumber, numberOf, packName, isName, nameOver}
-use Rattle.rules.specs.Line.{number, value, held, inBounds, readField, readFieldOver, fits, inFront, fit, fitOver, said, readAsOver, firstText, Record, plainCode, linkedCode, absoluteEntry, relocatedEntry, external, recordShape, starred, codeShape, isOne, textAt, entryShape, shapeFor, testBytes, sayFieldsOver, lineOf, lineOver, lineAnswerOver}
+use Rattle.rules.specs.Line.{number, value, held, inBounds, readField, readFieldOver, fits, inFront, fit, fitOver, said, readAsOver, firstText, Record, plainCode, linkedCode, absoluteEntry, relocatedEntry, external, dataRecord, recordShape, starred, codeShape, isOne, textAt, entryShape, shapeFor, testBytes, sayFieldsOver, lineOf, lineOver, lineAnswerOver}
 use Rattle.rules.specs.declared.line.Expected.{Expected}
-use Rattle.rules.specs.declared.line.Expected.the-variants.{CodeRecord, EntryRecord, ExternalRecord}
+use Rattle.rules.specs.declared.line.Expected.the-variants.{CodeRecord, EntryRecord, ExternalRecord, DataRecord}
 use Rattle.rules.specs.declared.line.FaultKind.{FaultKind}
 use Rattle.rules.specs.declared.line.FaultKind.the-variants.{BadNumber, BadType}
 use Rattle.rules.specs.declared.line.Kind.{Kind}
@@ -164,7 +164,12 @@ linked-says ts b last size are low high n =
     )
     (λ fs same. unfold shapeFor codeShape sameText in rw (star-is _ fs same))
 
--- ---- externals and entries
+-- ---- data records, externals and entries
+
+pub pair-says : (t u : List ℕ) → isNumber t ≡ true → isNumber u ≡ true → Says DataRecord (t ∷ u ∷ [])
+unfolding recordOf recordShape
+pair-says t u n k =
+    line-says DataRecord dataRecord (λ vs. refl) (t ∷ u ∷ []) (omega arith) (number-held t n, (number-held u k, tt)) (λ fs same. unfold shapeFor in refl)
 
 pub external-says : {name : List ℕ} → isName name ≡ true → Says ExternalRecord (name ∷ [])
 unfolding recordOf recordShape

@@ -10,9 +10,9 @@ use Rattle.rules.specs.declared.line.Expected.the-variants.{AnyHeader, OpeningT
 use Rattle.rules.specs.declared.reading.Mode.{Mode}
 use Rattle.runs.specs.Modes.{roomBy, entriesIn, externalsIn}
 
--- neither a code record, nor an entry, nor an external; no entry; no external
+-- neither a code record, nor an entry, nor an external, nor a data record; no entry; no external
 abbrev otherTags : List ℕ
-otherTags = 0 ∷ 1 ∷ 2 ∷ 6 ∷ 7 ∷ 8 ∷ 9 ∷ []
+otherTags = 0 ∷ 1 ∷ 2 ∷ 7 ∷ 8 ∷ 9 ∷ []
 
 abbrev notEntry : List ℕ
 notEntry = 0 ∷ 1 ∷ 2 ∷ 3 ∷ 5 ∷ 6 ∷ 7 ∷ 8 ∷ 9 ∷ []
@@ -28,7 +28,7 @@ no-room ClosingTitle m h = refl
 no-room CodeRecord m h = absurd (miss otherTags 3 tt h)
 no-room EntryRecord m h = absurd (miss otherTags 4 tt h)
 no-room ExternalRecord m h = absurd (miss otherTags 5 tt h)
-no-room DataRecord m h = refl
+no-room DataRecord m h = absurd (miss otherTags 6 tt h)
 no-room InitRecord m h = refl
 no-room ParameterRecord m h = refl
 no-room SubRecord m h = refl

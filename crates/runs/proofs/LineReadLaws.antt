@@ -12,14 +12,14 @@ use lib.Seq.{drop-cons, drop-drop}
 use borrow.Author.Tests.{ne-eqb}
 use Rattle.rules.specs.Text.{LF, CR, all, isLegal, widenLine, linesOf, isNumber, isName}
 use Rattle.rules.specs.declared.line.Expected.{Expected}
-use Rattle.rules.specs.declared.line.Expected.the-variants.{CodeRecord, EntryRecord, ExternalRecord}
+use Rattle.rules.specs.declared.line.Expected.the-variants.{CodeRecord, EntryRecord, ExternalRecord, DataRecord}
 use Rattle.rules.proofs.LineEndLaws.{addToLines, startsLF, lines-cons}
 use Rattle.rules.proofs.TestLaws.{every-add, between-low, all-first, all-rest}
 use Rattle.text.specs.FieldBounds.{isSpace}
 use Rattle.text.specs.Scan.{part}
 use Rattle.text.proofs.ScanLaws.{length-part}
 use Rattle.runs.specs.Runs.{Stands, Stretch, FieldEnd, Spelled, Follow, NumberFollows, NextNumber, Numbers, LineEnded, IsRecord, LineRead, RecordsRead}
-use Rattle.runs.proofs.AnswerLaws.{Says, plain-says, linked-says, external-says, absolute-says, relocated-says}
+use Rattle.runs.proofs.AnswerLaws.{Says, plain-says, pair-says, linked-says, external-says, absolute-says, relocated-says}
 use Rattle.runs.proofs.SpelledLaws.{number-spelled, name-spelled, byte-spelled, gap-spelled, follow-on, numbers-start, numbers-more}
 use Rattle.runs.proofs.StretchLaws.{stretch-start}
 
@@ -105,6 +105,10 @@ module _ {at end r : ℕ} {l : List ℕ} (d : LineEnded l at end r) where
   word-read {s} {m} gap n some ns =
       line-read (plain-says (part s m l) (ns .texts) (n .is some) (ns .size) (ns .are))
       (ns .follow .adds at _ (gap-spelled gap (number-spelled n some))) d
+
+  pub pair-read : {m : ℕ} → FieldEnd isNumber l at m → m ≢ at → NumberFollows l m end → LineRead DataRecord at l r
+  pair-read {m} n some last =
+      line-read (pair-says (part at m l) (last .text) (n .is some) (last .is)) (last .follow .adds at _ (number-spelled n some)) d
 
   pub near-read :
       {a b c : ℕ} → FieldEnd isNumber l at a → a ≢ at → NextNumber l a b → b ≢ a → NextNumber l b c → c ≢ b → NextNumber l c end → end ≢ c

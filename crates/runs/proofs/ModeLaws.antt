@@ -160,10 +160,10 @@ after-front (suc k) m = ap oneDone (after-front k m)
 
 -- ---- what a record's step is
 
--- the part that it adds
-pub record Adds (n : ℕ) (m : Mode) (l : List ℕ) : Type 0 where
-  pub part : Part
-  pub is : stepAt n m l ≡ Add (oneDone m) part
+-- it adds a part, or nothing
+pub data Does (m : Mode) (s : Step) : Type 0 where
+  adds : (p : Part) → s ≡ Add (oneDone m) p → Does m s
+  goes : s ≡ Next (oneDone m) → Does m s
 
 module _ (n : ℕ) (m : Mode) where
   -- the record is of the kind k, which is the one expected
@@ -175,28 +175,27 @@ module _ (n : ℕ) (m : Mode) where
     unfolding oneDone
     done-by = ap (λ (w : Expected). recordDone w (counted w m)) expected
 
-  step-is : (a : LineAnswer) → recordOf a ≡ some (m .expected) → 1 ≤ roomFor m → (p : Part) × (stepOf n m a ≡ Add (oneDone m) p)
+  step-is : (a : LineAnswer) → recordOf a ≡ some (m .expected) → 1 ≤ roomFor m → Does m (stepOf n m a)
   unfolding recordOf stepOf entryStep externalStep counted roomBy
   step-is (Bad f) e h = never-none e
   step-is Blank e h = never-none e
   step-is (Head x) e h = never-none e
   step-is (Opening t) e h = never-none e
   step-is (Closing t) e h = never-none e
-  step-is (Code w) e h = (wordPart m w, ap (λ (k : Mode). Add k (wordPart m w)) (sym (done-by CodeRecord e)))
+  step-is (Code w) e h = adds (wordPart m w) (ap (λ (k : Mode). Add k (wordPart m w)) (sym (done-by CodeRecord e)))
   step-is (Entered x) e h =
       let some-room : 1 ≤ roomBy EntryRecord m = subst (λ (w : Expected). 1 ≤ roomBy w m) (expected EntryRecord e) h in
-      (EntryPart x, rw (lt-ltb (m .object .entries) 64 (omega arith)) (ap (λ (k : Mode). Add k (EntryPart x)) (sym (done-by EntryRecord e))))
+      adds (EntryPart x) (rw (lt-ltb (m .object .entries) 64 (omega arith)) (ap (λ (k : Mode). Add k (EntryPart x)) (sym (done-by EntryRecord e))))
   step-is (Mentioned x) e h =
       let some-room : 1 ≤ roomBy ExternalRecord m = subst (λ (w : Expected). 1 ≤ roomBy w m) (expected ExternalRecord e) h in
-      (ExternalPart x, rw (lt-ltb (m .object .externals) 64 (omega arith)) (ap (λ (k : Mode). Add k (ExternalPart x)) (sym (done-by ExternalRecord e))))
-  step-is Ignored e h = never-none e
+      adds (ExternalPart x) (rw (lt-ltb (m .object .externals) 64 (omega arith)) (ap (λ (k : Mode). Add k (ExternalPart x)) (sym (done-by ExternalRecord e))))
+  step-is Ignored e h =
+      goes (ap (λ (w : Expected). Next (recordDone w m)) (expected DataRecord e) ∙ ap Next (sym (done-by DataRecord e)))
   step-is (Parameter x) e h = never-none e
   step-is Sub e h = never-none e
 
-  pub record-step : (l : List ℕ) → IsRecord (m .expected) l → 1 ≤ roomFor m → Adds n m l
-  record-step l e h =
-      let (p, q) = step-is (lineAnswer (m .expected) l) e h in
-      record { part = p; is = q }
+  pub record-step : (l : List ℕ) → IsRecord (m .expected) l → 1 ≤ roomFor m → Does m (stepAt n m l)
+  record-step l e h = step-is (lineAnswer (m .expected) l) e h
 
 -- ---- room behind a record
 

@@ -10,7 +10,7 @@ use Rattle.rules.specs.Limits.{longestLine}
 use Rattle.rules.specs.Text.{all, isLegal, Field, fieldsFrom, isNumber, linesOf}
 use Rattle.rules.specs.Line.{lineAnswer}
 use Rattle.rules.specs.declared.line.Expected.{Expected}
-use Rattle.rules.specs.declared.line.Expected.the-variants.{CodeRecord, EntryRecord, ExternalRecord}
+use Rattle.rules.specs.declared.line.Expected.the-variants.{CodeRecord, EntryRecord, ExternalRecord, DataRecord}
 use Rattle.rules.specs.declared.line.LineAnswer.{LineAnswer}
 use Rattle.rules.specs.declared.line.LineAnswer.the-variants.{Bad, Blank, Head, Opening, Closing, Code, Entered, Mentioned, Ignored, Parameter, Sub}
 use Rattle.rules.proofs.TestLaws.{Every}
@@ -87,7 +87,7 @@ pub record LineEnded (file : List ℕ) (at end r : ℕ) : Type 0 where
 
 -- ---- the records of a block
 
--- what was expected where a line says this
+-- what was expected where a line says this; of the records that are not read further, those of data blocks
 unfoldable pub recordOf : LineAnswer → Option Expected
 recordOf (Bad f) = none
 recordOf Blank = none
@@ -97,7 +97,7 @@ recordOf (Closing t) = none
 recordOf (Code w) = some CodeRecord
 recordOf (Entered e) = some EntryRecord
 recordOf (Mentioned x) = some ExternalRecord
-recordOf Ignored = none
+recordOf Ignored = some DataRecord
 recordOf (Parameter n) = none
 recordOf Sub = none
 

@@ -7,6 +7,7 @@ pub mod modes;
 
 use crate::lines::entry;
 use crate::lines::external;
+use crate::lines::pair;
 use crate::lines::word;
 use rules::line::Expected;
 ghost use Prim.Native.Nat.{_≤_};
@@ -29,6 +30,7 @@ fn usual_line(file: &[u8], at: usize, expected: Expected) -> usize
         Expected::CodeRecord => word(file, at),
         Expected::EntryRecord => entry(file, at),
         Expected::ExternalRecord => external(file, at),
+        Expected::DataRecord => pair(file, at),
         _ => 0,
     }
 }

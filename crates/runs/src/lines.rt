@@ -14,7 +14,7 @@ use text::scan::LF;
 ghost use Prim.Native.Nat.{_+_, _≤_};
 ghost use mathlib.Core.Logic.{_≢_};
 ghost use lib.ListN.{length};
-ghost use Rattle.rules.specs.declared.line.Expected.the-variants.{CodeRecord, EntryRecord, ExternalRecord};
+ghost use Rattle.rules.specs.declared.line.Expected.the-variants.{CodeRecord, EntryRecord, ExternalRecord, DataRecord};
 ghost use Rattle.runs.specs.Runs.{LineEnded, LineRead};
 
 // Bytes of four numbers with a space between them, where they are longest.
@@ -165,4 +165,20 @@ pub fn entry(file: &[u8], at: usize) -> usize
         return 0;
     }
     line_end(file, at, stop)
+}
+
+// A record of a data block: two numbers.
+pub fn pair(file: &[u8], at: usize) -> usize
+    requires { ⌜ at ≤ length (now file) ⌝ }
+    ensures { λ r. ⌜ (r ≢ 0 → LineRead DataRecord at (now (file .entry)) r) ⌝ }
+{
+    let first = number_end(file, at);
+    if first == at {
+        return 0;
+    }
+    let end = next_number(file, first);
+    if end == first {
+        return 0;
+    }
+    line_end(file, at, end)
 }

@@ -35,6 +35,7 @@ pub fn room(m: Mode) -> usize
         Expected::CodeRecord => m.block.remaining as usize,
         Expected::EntryRecord => lower(m.block.remaining, MOST_ENTRIES, m.object.entries),
         Expected::ExternalRecord => lower(m.block.remaining, MOST_EXTERNALS, m.object.externals),
+        Expected::DataRecord => m.block.remaining as usize,
         _ => 0,
     }
 }

@@ -23,6 +23,12 @@ enum-told-3 c = search needs
 external-requires : tie.Need-external-requires
 external-requires c κs = search needs
 
+enum-told-4 : tie.Need-enum-told-4
+enum-told-4 c = search needs
+
+pair-requires : tie.Need-pair-requires
+pair-requires c κs = search needs
+
 returns : tie.Need-returns
 returns c = rw (c .before .enum-told .given .1) (c .word .ensures)
 
@@ -33,7 +39,10 @@ returns-3 : tie.Need-returns-3
 returns-3 c = rw (c .before .enum-told3 .given .1) (c .external .ensures)
 
 returns-4 : tie.Need-returns-4
-returns-4 c = λ some. absurd (some refl)
+returns-4 c = rw (c .before .enum-told4 .given .1) (c .pair .ensures)
+
+returns-5 : tie.Need-returns-5
+returns-5 c = λ some. absurd (some refl)
 
 pub usual-line-spec : {M : Type 1} → statement M
 usual-line-spec =
@@ -45,7 +54,10 @@ usual-line-spec =
     entry-requires
     enum-told-3
     external-requires
+    enum-told-4
+    pair-requires
     returns
     returns-2
     returns-3
-    returns-4)
+    returns-4
+    returns-5)
