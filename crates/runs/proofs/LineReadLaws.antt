@@ -101,21 +101,23 @@ module _ {at end r : ℕ} {l : List ℕ} (d : LineEnded l at end r) where
   pub external-read : FieldEnd isName l at end → end ≢ at → LineRead ExternalRecord at l r
   external-read n some = line-read (external-says (n .is some)) (name-spelled n some) d
 
-  pub word-read : {s m : ℕ} → Stretch isSpace l at s → FieldEnd isNumber l s m → m ≢ s → Numbers l m end 3 → LineRead CodeRecord at l r
-  word-read {s} {m} gap n some ns =
-      line-read (plain-says (part s m l) (ns .texts) (n .is some) (ns .size) (ns .are))
-      (ns .follow .adds at _ (gap-spelled gap (number-spelled n some))) d
-
   pub pair-read : {m : ℕ} → FieldEnd isNumber l at m → m ≢ at → NumberFollows l m end → LineRead DataRecord at l r
   pair-read {m} n some last =
       line-read (pair-says (part at m l) (last .text) (n .is some) (last .is)) (last .follow .adds at _ (number-spelled n some)) d
 
+  pub word-read :
+      {s m b c : ℕ} → Stretch isSpace l at s → FieldEnd isNumber l s m → m ≢ s → NextNumber l m b → b ≢ m → NextNumber l b c → c ≢ b
+      → NextNumber l c end → end ≢ c → LineRead CodeRecord at l r
+  word-read {s} {m} gap n some second h third g last k =
+      let ns = numbers-more (numbers-more (numbers-more (numbers-start m l (n .to)) second h) third g) last k in
+      line-read (plain-says (part s m l) (ns .texts) (n .is some) (ns .size) (ns .are))
+      (ns .follow .adds at _ (gap-spelled gap (number-spelled n some))) d
+
+  -- with no space in front
   pub near-read :
-      {a b c : ℕ} → FieldEnd isNumber l at a → a ≢ at → NextNumber l a b → b ≢ a → NextNumber l b c → c ≢ b → NextNumber l c end → end ≢ c
+      {m b c : ℕ} → FieldEnd isNumber l at m → m ≢ at → NextNumber l m b → b ≢ m → NextNumber l b c → c ≢ b → NextNumber l c end → end ≢ c
       → LineRead CodeRecord at l r
-  near-read {a} n some second s third t last u =
-      word-read (stretch-start isSpace at l (omega (arith, n .from, n .to))) n some
-      (numbers-more (numbers-more (numbers-more (numbers-start a l (n .to)) second s) third t) last u)
+  near-read n = word-read (stretch-start isSpace at l (omega (arith, n .from, n .to))) n
 
   pub linked-read :
       {m k b : ℕ} → Stands l at 42 → Numbers l (at + 1) m 4 → Follow l m (m + 2) ((48 ∷ []) ∷ []) → Follow l (m + 2) k ((b ∷ []) ∷ [])

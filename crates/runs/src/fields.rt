@@ -127,7 +127,7 @@ pub fn near_number(file: &[u8], i: usize) -> usize
 }
 
 // Where the number ends that stands behind spaces from i on: i where there is none.
-fn far_number(file: &[u8], i: usize) -> usize
+pub fn far_number(file: &[u8], i: usize) -> usize
     requires { ⌜ i ≤ length (now file) ⌝ }
     ensures { λ r. ⌜ NextNumber (now (file .entry)) i r ⌝ }
 {

@@ -1,4 +1,5 @@
 // One line in its usual form: where the next one starts, or 0, where the line is not in that form.
+use crate::fields::far_number;
 use crate::fields::has_byte;
 use crate::fields::name_end;
 use crate::fields::near_number;
@@ -106,11 +107,19 @@ fn far_word(file: &[u8], at: usize) -> usize
     if first == start {
         return linked_word(file, at);
     }
-    let end = numbers_end(file, first, 3);
-    if end == first {
+    let second = far_number(file, first);
+    if second == first {
         return 0;
     }
-    line_end(file, at, end)
+    let third = far_number(file, second);
+    if third == second {
+        return 0;
+    }
+    let last = far_number(file, third);
+    if last == third {
+        return 0;
+    }
+    line_end(file, at, last)
 }
 
 // A word of any form.

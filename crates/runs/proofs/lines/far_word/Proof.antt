@@ -1,4 +1,4 @@
--- `runs::lines::far_word` meets its contract: each field follows the one before it; 0 promises nothing.
+-- `runs::lines::far_word` meets its contract: each number follows the one before it; 0 promises nothing.
 -- Assumes nothing.
 use native.Mathlib.Omega.{arith}
 use mathlib.Core.Path.{refl}
@@ -19,19 +19,32 @@ linked-word-requires c κs = c .before .before .before .before .pre
 returns : tie.Need-returns
 returns c = search needs
 
-numbers-end-requires : tie.Need-numbers-end-requires
-numbers-end-requires c κs = search needs
+far-number-requires : tie.Need-far-number-requires
+far-number-requires c κs = c .before .number-end .ensures .to
 
 returns-2 : tie.Need-returns-2
 returns-2 c = λ some. absurd (some refl)
 
-line-end-requires : tie.Need-line-end-requires
-line-end-requires c κs = (omega (arith, c .before .before .before .before .spaces-end .ensures .from, c .before .before .before .number-end .ensures .from, c .before .numbers-end .ensures .from), c .before .numbers-end .ensures .to)
+far-number-requires-2 : tie.Need-far-number-requires-2
+far-number-requires-2 c κs = c .before .far-number .ensures .to
 
 returns-3 : tie.Need-returns-3
-returns-3 c = λ some.
-    word-read (c .line-end .ensures some) (c .before .before .before .before .before .spaces-end .ensures) (c .before .before .before .before .number-end .ensures) (c .before .before .before .if1 .left)
-    (c .before .before .numbers-end .ensures .are (c .before .if2 .left))
+returns-3 c = λ some. absurd (some refl)
+
+far-number-requires-3 : tie.Need-far-number-requires-3
+far-number-requires-3 c κs = c .before .far-number2 .ensures .to
+
+returns-4 : tie.Need-returns-4
+returns-4 c = λ some. absurd (some refl)
+
+line-end-requires : tie.Need-line-end-requires
+line-end-requires c κs =
+    (omega (arith, c .before .before .before .before .before .before .before .before .spaces-end .ensures .from, c .before .before .before .before .before .before .before .number-end .ensures .from, c .before .before .before .before .before .far-number .ensures .from, c .before .before .before .far-number2 .ensures .from, c .before .far-number3 .ensures .from), c .before .far-number3 .ensures .to)
+
+returns-5 : tie.Need-returns-5
+returns-5 c = λ some.
+    word-read (c .line-end .ensures some) (c .before .before .before .before .before .before .before .before .before .spaces-end .ensures) (c .before .before .before .before .before .before .before .before .number-end .ensures) (c .before .before .before .before .before .before .before .if1 .left) (c .before .before .before .before .before .before .far-number .ensures) (c .before .before .before .before .before .if2 .left)
+    (c .before .before .before .before .far-number2 .ensures) (c .before .before .before .if3 .left) (c .before .before .far-number3 .ensures) (c .before .if4 .left)
 
 pub far-word-spec : {M : Type 1} → statement M
 far-word-spec =
@@ -41,7 +54,11 @@ far-word-spec =
     number-end-requires
     linked-word-requires
     returns
-    numbers-end-requires
+    far-number-requires
     returns-2
+    far-number-requires-2
+    returns-3
+    far-number-requires-3
+    returns-4
     line-end-requires
-    returns-3)
+    returns-5)
