@@ -27,20 +27,18 @@ enum Limit {
     Seconds(f64),
 }
 
-const ROWS: [Row; 5] = [
-    Row { label: "a full file of modules", input: || inputs::modules(1), piece: 512, limit: Limit::Loads(40.0) },
-    Row {
-        label: "one-letter externals",
-        input: || inputs::one_letter_externals(1),
-        piece: 512,
-        limit: Limit::Loads(40.0),
-    },
-    Row {
-        label: "refused at its last line",
-        input: || inputs::refused_by_reading(1),
-        piece: 512,
-        limit: Limit::Loads(40.0),
-    },
+const LOADS: Limit = Limit::Loads(40.0);
+
+const ROWS: [Row; 11] = [
+    Row { label: "a full file of modules", input: || inputs::modules(1), piece: 512, limit: LOADS },
+    Row { label: "one block of words", input: inputs::plain_words, piece: 512, limit: LOADS },
+    Row { label: "words in columns, CR LF", input: inputs::words_in_columns, piece: 512, limit: LOADS },
+    Row { label: "a section of entries", input: || inputs::entries_empty_table(1), piece: 512, limit: LOADS },
+    Row { label: "one-letter externals", input: || inputs::one_letter_externals(1), piece: 512, limit: LOADS },
+    Row { label: "data records", input: inputs::data_records, piece: 512, limit: LOADS },
+    Row { label: "headers and titles alone", input: inputs::headers_alone, piece: 512, limit: LOADS },
+    Row { label: "refused at its first line", input: inputs::refused_at_once, piece: 512, limit: LOADS },
+    Row { label: "refused at its last line", input: || inputs::refused_by_reading(1), piece: 512, limit: LOADS },
     Row { label: "a full file of modules", input: || inputs::modules(1), piece: 1, limit: Limit::Seconds(10.0) },
     Row { label: "line ends alone", input: line_ends, piece: 1, limit: Limit::Seconds(10.0) },
 ];

@@ -94,7 +94,7 @@ fn library(divisor: usize, order: impl FnOnce(Vec<String>) -> Vec<String>) -> In
     Input { size, state, job: Job::Load(file.into()), expected: 0 }
 }
 
-fn entries_empty_table(divisor: usize) -> Input {
+pub fn entries_empty_table(divisor: usize) -> Input {
     entries(divisor, fresh())
 }
 
@@ -276,6 +276,69 @@ fn chained(i: usize, count: usize, words: usize) -> String {
     let needs = if i + 1 < count { format!("5 1 ***EXT\n{}\n", name(i + 1)) } else { String::new() };
     let code = if words > 0 { code(words, usize::from(i + 1 < count)) } else { String::new() };
     format!("3 ***TITLE\nM{i}\n4 1 ***ENTRY\n{} 0 1 0\n{needs}{code}1 ***END\nM{i}\n", name(i))
+}
+
+/// One module whose only block has plain words as long as the file has room; `line` writes word i.
+fn block_of_words(line: impl Fn(usize) -> String) -> Input {
+    let end = "1 ***END\nA\n";
+    let (mut records, mut count) = (String::new(), 0);
+    while count < 4096 {
+        let next = line(count);
+        // the headers in front have less than 40 bytes
+        if records.len() + next.len() + end.len() + 40 > LONGEST_FILE {
+            break;
+        }
+        records += &next;
+        count += 1;
+    }
+    let file = padded(format!("3 ***TITLE\nA\n0 {count:o} 0 ***CODE\n{records}{end}"), LONGEST_FILE);
+    Input { size: format!("{count} words"), state: fresh(), job: Job::Load(file.into()), expected: 0 }
+}
+
+/// Numbers of every length.
+pub fn plain_words() -> Input {
+    let mut rng = Rng::new(4);
+    let numbers: Vec<u64> = (0..4 * 4096).map(|_| (rng.next() % 65_536) >> (rng.next() % 12)).collect();
+    block_of_words(move |i| {
+        let quarters: Vec<String> = numbers[4 * i..4 * i + 4].iter().map(|number| format!("{number:o}")).collect();
+        quarters.join(" ") + "\n"
+    })
+}
+
+/// Six digits each, in columns, under lines that end in CR LF.
+pub fn words_in_columns() -> Input {
+    let mut rng = Rng::new(5);
+    let numbers: Vec<u64> = (0..4 * 4096).map(|_| rng.next() % 65_536).collect();
+    block_of_words(move |i| {
+        let quarters: Vec<String> = numbers[4 * i..4 * i + 4].iter().map(|number| format!("  {number:06o}")).collect();
+        quarters.concat() + "\r\n"
+    })
+}
+
+/// Modules with nothing in them.
+pub fn headers_alone() -> Input {
+    let module = "3 ***TITLE\nA\n1 ***END\nA\n";
+    let file = padded(module.repeat(LONGEST_FILE / module.len()), LONGEST_FILE);
+    Input {
+        size: format!("{} modules", LONGEST_FILE / module.len()),
+        state: fresh(),
+        job: Job::Load(file.into()),
+        expected: 0,
+    }
+}
+
+/// One module with a block of data.
+pub fn data_records() -> Input {
+    let (record, count) = ("1234 567\n", 7_000);
+    let file = format!("3 ***TITLE\nA\n10 {count:o} DATA 0 ***DBDB\n{}1 ***END\nA\n", record.repeat(count));
+    let file = padded(file, LONGEST_FILE);
+    Input { size: format!("{count} records"), state: fresh(), job: Job::Load(file.into()), expected: 0 }
+}
+
+/// The first line is no header.
+pub fn refused_at_once() -> Input {
+    let file = String::from("/\n") + &modules_file(LONGEST_FILE - 2);
+    Input { size: format!("{} bytes", file.len()), state: fresh(), job: Job::Load(file.into()), expected: 20 }
 }
 
 /// A CODE block with numbers as an assembler writes them. Every fourth word refers to an external.
