@@ -1,27 +1,23 @@
 -- Headers and titles by their fields: a text found byte by byte, a marker, a number with its value, and what a line of such fields says.
 -- Assumes nothing.
-use Prim.Native.Nat.{ℕ, zero, suc, _+_, _-_, _*_, _≤_, _<_}
-use native.Mathlib.Nat.{add-zero}
+use Prim.Native.Nat.{ℕ, _+_, _-_, _*_, _≤_, _<_}
 use native.Mathlib.Omega.{arith}
 use mathlib.Core.Bool.{Bool, true, false, true≢false}
 use mathlib.Core.List.{List, [], _∷_, _++_, append-nil}
 use mathlib.Core.Logic.{_≢_}
-use mathlib.Core.Option.{Option, some}
+use mathlib.Core.Option.{some}
 use mathlib.Core.Path.{_≡_, refl, sym, ap, ap₂, subst, _∙_}
 use lib.ListN.{length, getD, drop}
-use lib.Dec.{eqb}
 use borrow.Author.Tests.{eq-eqb, le-leb}
-use Rattle.rules.specs.Text.{bytes, space, all, between, isLegal, sameText, Field, fieldsOf, octal, isOctal, isNumber, numberOf, isName, nameOf}
-use Rattle.rules.specs.Line.{nth, number, Row, row, headers, rowIn, rowOf, markerIn, markerOf, value, held, inBounds, readField, readFieldOver, fits, inFront, fit, fitOver, Shape, said, readAsOver, headerShape, headerShapeIn, rowAt, firstText, openingTitle, closingTitle, recordShape, shapeFor, testBytes, sayFieldsOver, lineOf, lineOver, lineAnswer, lineAnswerOver}
+use Rattle.rules.specs.Text.{space, all, between, isLegal, sameText, Field, fieldsOf, octal, isNumber, numberOf, isName, nameOf}
+use Rattle.rules.specs.Line.{nth, number, Row, row, headers, rowIn, rowOf, markerOf, value, held, inBounds, readField, readFieldOver, fits, inFront, fit, fitOver, Shape, said, readAsOver, headerShape, headerShapeIn, rowAt, openingTitle, closingTitle, recordShape, shapeFor, testBytes, sayFieldsOver, lineOf, lineOver, lineAnswer, lineAnswerOver}
 use Rattle.rules.specs.declared.line.Expected.{Expected}
 use Rattle.rules.specs.declared.line.Expected.the-variants.{AnyHeader, OpeningTitle, ClosingTitle}
-use Rattle.rules.specs.declared.line.FaultKind.the-variants.{BadNumber}
-use Rattle.rules.specs.declared.line.Header.{Header}
 use Rattle.rules.specs.declared.line.Header.the-variants.{CodeBlock, EndBlock, TitleBlock, EntryBlock, ExternalBlock, LibraryStart, LibraryEnd}
 use Rattle.rules.specs.declared.line.Kind.{Kind}
 use Rattle.rules.specs.declared.line.Kind.the-variants.{Name, Anything, Marker}
 use Rattle.rules.specs.declared.line.LineAnswer.{LineAnswer}
-use Rattle.rules.specs.declared.line.LineAnswer.the-variants.{Head, Opening, Closing}
+use Rattle.rules.specs.declared.line.LineAnswer.the-variants.{Opening, Closing}
 use Rattle.rules.proofs.TestLaws.{and-intro, between-intro}
 use Rattle.text.specs.Scan.{part}
 use Rattle.text.specs.Values.{numberIn, nameIn}
@@ -36,7 +32,6 @@ use Rattle.runs.proofs.SpelledLaws.{plain-spelled, one-space, spaced, byte-spel
 use Rattle.runs.proofs.AnswerLaws.{texts, number-is, legal-front, first-text}
 use Rattle.runs.proofs.LineReadLaws.{line-stands}
 use Rattle.framing.specs.Framing.{TextEnd, MarkerEnd, CountFollows, CountAt, HeaderEnded, LineSaid}
-use Rattle.framing.specs.declared.Count.{Count}
 use Rattle.framing.specs.declared.Frame.{Frame}
 
 -- what is declined promises nothing
@@ -155,7 +150,8 @@ module _ (e : Expected) (s : Shape) (vs : List ℕ) where
   unfolding lineAnswerOver testBytes textsFrom fieldsOf
   line-says ts n h q line are legal short =
       rw (legal-front 80 line legal short, le-leb (length line) (length line) (omega arith))
-      (fields-say (length line + 1) (fieldsOf line) (q (fieldsOf line) are) (omega (arith, n, ap length are)) (subst (λ (us : List (List ℕ)). HeldAs (s .kinds) us vs) (sym are) h))
+      (fields-say (length line + 1) (fieldsOf line) (q (fieldsOf line) are) (omega (arith, n, ap length are))
+      (subst (λ (us : List (List ℕ)). HeldAs (s .kinds) us vs) (sym are) h))
 
   line-said :
       {at end r : ℕ} {l : List ℕ} {ts : List (List ℕ)} → 1 ≤ length ts → HeldAs (s .kinds) ts vs
@@ -172,7 +168,9 @@ module _ (e : Expected) (s : Shape) (vs : List ℕ) where
 
 -- ---- titles
 
-module _ {at end r n : ℕ} {l : List ℕ} (f : FieldEnd isName l at end) (more : end ≢ at) (d : LineEnded l at end r) (v : readField Name (part at end l) ≡ value n) where
+module _
+    {at end r n : ℕ} {l : List ℕ} (f : FieldEnd isName l at end) (more : end ≢ at) (d : LineEnded l at end r)
+    (v : readField Name (part at end l) ≡ value n) where
   pub opening-said : LineSaid OpeningTitle at l (Opening n) r
   unfolding recordShape
   opening-said =
@@ -190,7 +188,9 @@ digit-is : (c : ℕ) → c ≤ 7 → numberOf ((48 + c) ∷ []) ≡ some c
 unfolding isNumber all octal
 digit-is c h =
     let v : 0 * 8 + (48 + c - 48) ≡ c = omega arith in
-    number-is ((48 + c) ∷ []) (and-intro refl (and-intro (and-intro (between-intro 48 55 (48 + c) (omega arith) (omega arith)) refl) (le-leb (0 * 8 + (48 + c - 48)) 65535 (omega arith))))
+    number-is ((48 + c) ∷ [])
+    (and-intro refl
+    (and-intro (and-intro (between-intro 48 55 (48 + c) (omega arith) (omega arith)) refl) (le-leb (0 * 8 + (48 + c - 48)) 65535 (omega arith))))
     ∙ ap some v
 
 -- it chooses the row

@@ -37,6 +37,7 @@ pub record CountFollows (file : List ℕ) (i r v : ℕ) : Type 0 where
   pub follow : Follow file i r (text ∷ [])
   pub is : readField number text ≡ value v
 
+-- such a number follows, where its end is not i
 pub record CountAt (file : List ℕ) (i : ℕ) (r : Count) : Type 0 where
   pub from : i ≤ r .end
   pub to : r .end ≤ length file

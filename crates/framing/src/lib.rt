@@ -33,10 +33,15 @@ struct Count {
     value: u16,
 }
 
+// Nothing is said.
 fn declined() -> Frame
     ensures { λ r. ⌜ r .fits ≡ false ⌝ }
 {
-    Frame { fits: false, answer: LineAnswer::Blank, next: 0 }
+    Frame {
+        fits: false,
+        answer: LineAnswer::Blank,
+        next: 0,
+    }
 }
 
 // Where the text ends that stands at i: i where another one does.
@@ -109,7 +114,11 @@ fn ended(file: &[u8], at: usize, i: usize, code: u8, header: Header) -> Frame
     if next == 0 {
         return declined();
     }
-    Frame { fits: true, answer: LineAnswer::Head(header), next }
+    Frame {
+        fits: true,
+        answer: LineAnswer::Head(header),
+        next,
+    }
 }
 
 // A header with one number, of a block of entries or externals.
@@ -128,6 +137,7 @@ fn counted(file: &[u8], at: usize, code: u8) -> Frame
     ended(file, at, n.end, code, Header::ExternalBlock(n.value))
 }
 
+// A header with two numbers, of a block of code.
 fn code_header(file: &[u8], at: usize) -> Frame
     requires { ⌜ Stands (now file) at 48 ⌝ }
     ensures { λ r. ⌜ (r .fits ≡ true → LineSaid AnyHeader at (now (file .entry)) (r .answer) (r .next)) ⌝ }
@@ -141,9 +151,19 @@ fn code_header(file: &[u8], at: usize) -> Frame
     if m.end == n.end {
         return declined();
     }
-    ended(file, at, m.end, b'0', Header::CodeBlock { count: n.value, offset: m.value })
+    ended(
+        file,
+        at,
+        m.end,
+        b'0',
+        Header::CodeBlock {
+            count: n.value,
+            offset: m.value,
+        },
+    )
 }
 
+// A header of any block.
 fn header(file: &[u8], at: usize) -> Frame
     requires { ⌜ at < length (now file) ⌝ }
     ensures { λ r. ⌜ (r .fits ≡ true → LineSaid AnyHeader at (now (file .entry)) (r .answer) (r .next)) ⌝ }
@@ -161,7 +181,7 @@ fn header(file: &[u8], at: usize) -> Frame
     }
 }
 
-// A title, of which a module has two.
+// A title: the one that opens a module, or the one that closes it.
 fn title(file: &[u8], at: usize, opens: bool) -> Frame
     requires { ⌜ at < length (now file) ⌝ }
     ensures { λ r. ⌜ (r .fits ≡ true → LineSaid (titleBy opens) at (now (file .entry)) (r .answer) (r .next)) ⌝ }
@@ -170,16 +190,24 @@ fn title(file: &[u8], at: usize, opens: bool) -> Frame
     if end == at {
         return declined();
     }
-    let next = line_end(file, at, end);
-    if next == 0 {
+    let behind = line_end(file, at, end);
+    if behind == 0 {
         return declined();
     }
     match read_name(&file[at..end]) {
         Name::Packed(name) => {
             if opens {
-                return Frame { fits: true, answer: LineAnswer::Opening(name), next };
+                return Frame {
+                    fits: true,
+                    answer: LineAnswer::Opening(name),
+                    next: behind,
+                };
             }
-            Frame { fits: true, answer: LineAnswer::Closing(name), next }
+            Frame {
+                fits: true,
+                answer: LineAnswer::Closing(name),
+                next: behind,
+            }
         }
         Name::NotAName => declined(),
     }
