@@ -120,7 +120,7 @@ plain-legal b h = between-wider 33 126 32 126 b (omega arith) (omega arith) h
 space-legal : (b : ℕ) → isSpace b ≡ true → isLegal b ≡ true
 space-legal b e = ap isLegal (eqb-true b space e)
 
-plain-spelled : (i r : ℕ) (l : List ℕ) → i < r → r ≤ length l → all isPlain (part i r l) ≡ true → Spelled l i r (part i r l ∷ [])
+pub plain-spelled : (i r : ℕ) (l : List ℕ) → i < r → r ≤ length l → all isPlain (part i r l) ≡ true → Spelled l i r (part i r l ∷ [])
 plain-spelled i r l h g p =
     record {
       from = omega arith;
@@ -189,7 +189,7 @@ module _ {i s r : ℕ} {l : List ℕ} {ts : List (List ℕ)} (gap : Stretch isSp
               };
         }
 
-one-space : {i : ℕ} {l : List ℕ} → Stands l i space → Stretch isSpace l i (i + 1)
+pub one-space : {i : ℕ} {l : List ℕ} → Stands l i space → Stretch isSpace l i (i + 1)
 one-space {i} {l} h = stretch-step isSpace (stretch-start isSpace i l (omega (arith, h .inside))) (h .inside) (eq-eqb _ space (h .is))
 
 pub byte-follows :

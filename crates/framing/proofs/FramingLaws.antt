@@ -1,0 +1,276 @@
+-- Headers and titles by their fields: a text found byte by byte, a marker, a number with its value, and what a line of such fields says.
+-- Assumes nothing.
+use Prim.Native.Nat.{ℕ, _+_, _-_, _*_, _≤_, _<_}
+use native.Mathlib.Omega.{arith}
+use mathlib.Core.Bool.{Bool, true, false, true≢false}
+use mathlib.Core.List.{List, [], _∷_, _++_, append-nil}
+use mathlib.Core.Logic.{_≢_}
+use mathlib.Core.Option.{some}
+use mathlib.Core.Path.{_≡_, refl, sym, ap, ap₂, subst, _∙_}
+use lib.ListN.{length, getD, drop}
+use borrow.Author.Tests.{eq-eqb, le-leb}
+use Rattle.rules.specs.Text.{space, all, between, isLegal, sameText, Field, fieldsOf, octal, isNumber, numberOf, isName, nameOf}
+use Rattle.rules.specs.Line.{nth, number, Row, row, headers, rowIn, rowOf, markerOf, value, held, inBounds, readField, readFieldOver, fits, inFront, fit, fitOver, Shape, said, readAsOver, headerShape, headerShapeIn, rowAt, openingTitle, closingTitle, recordShape, shapeFor, testBytes, sayFieldsOver, lineOf, lineOver, lineAnswer, lineAnswerOver}
+use Rattle.rules.specs.declared.line.Expected.{Expected}
+use Rattle.rules.specs.declared.line.Expected.the-variants.{AnyHeader, OpeningTitle, ClosingTitle}
+use Rattle.rules.specs.declared.line.Header.the-variants.{CodeBlock, EndBlock, TitleBlock, EntryBlock, ExternalBlock, LibraryStart, LibraryEnd}
+use Rattle.rules.specs.declared.line.Kind.{Kind}
+use Rattle.rules.specs.declared.line.Kind.the-variants.{Name, Anything, Marker}
+use Rattle.rules.specs.declared.line.LineAnswer.{LineAnswer}
+use Rattle.rules.specs.declared.line.LineAnswer.the-variants.{Opening, Closing}
+use Rattle.rules.proofs.TestLaws.{and-intro, between-intro}
+use Rattle.text.specs.Scan.{part}
+use Rattle.text.specs.Values.{numberIn, nameIn}
+use Rattle.text.specs.declared.numbers.Number.{Number as AnyNumber}
+use Rattle.text.specs.declared.numbers.Number.the-variants.{Value}
+use Rattle.text.specs.declared.names.Name.{Name as AnyName}
+use Rattle.text.specs.declared.names.Name.the-variants.{Packed}
+use Rattle.text.proofs.ScanLaws.{part-nil, part-cons, length-part, drop-part, part-all}
+use Rattle.runs.specs.Runs.{Stands, FieldEnd, textsFrom, Spelled, Follow, LineEnded}
+use Rattle.runs.proofs.StretchLaws.{part-split, part-one}
+use Rattle.runs.proofs.SpelledLaws.{plain-spelled, one-space, spaced, byte-spelled, number-spelled, name-spelled, follow-on}
+use Rattle.runs.proofs.AnswerLaws.{texts, number-is, legal-front, first-text}
+use Rattle.runs.proofs.LineReadLaws.{line-stands}
+use Rattle.framing.specs.Framing.{TextEnd, MarkerEnd, CountFollows, CountAt, HeaderEnded, LineSaid}
+use Rattle.framing.specs.declared.Frame.{Frame}
+
+-- what is declined promises nothing
+pub nothing : {A : Type 0} {fits : Bool} → fits ≡ false → fits ≡ true → A
+nothing e h = absurd (true≢false (sym h ∙ e))
+
+-- ---- a text, byte by byte
+
+pub text-start : (i : ℕ) (l t : List ℕ) → part i (i + 0) l ≡ part 0 0 t
+text-start i l t = part-nil i (i + 0) l (omega arith) ∙ sym (part-nil 0 0 t (omega arith))
+
+pub text-step :
+    (i k : ℕ) (l t : List ℕ) → part i (i + k) l ≡ part 0 k t → i + k < length l → k < length t → getD l (i + k) 0 ≡ getD t k 0
+    → part i (i + (k + 1)) l ≡ part 0 (k + 1) t
+text-step i k l t e h g b =
+    let n : i + (k + 1) ≡ i + k + 1 = omega arith in
+    ap (λ (r : ℕ). part i r l) n
+    ∙ part-split i (i + k) (i + k + 1) l (omega arith) (omega arith)
+    ∙ ap₂ _++_ e (part-one (i + k) l h ∙ ap (λ (x : ℕ). x ∷ []) b ∙ sym (part-one k t g))
+    ∙ sym (part-split 0 k (k + 1) t (omega arith) (omega arith))
+
+pub text-found : (i k : ℕ) (l t : List ℕ) → part i (i + k) l ≡ part 0 k t → k ≡ length t → i + k ≤ length l → TextEnd l i t (i + k)
+text-found i k l t e n h =
+    record { from = omega arith; to = h; is = λ more. e ∙ ap (λ (r : ℕ). part 0 r t) n ∙ part-all 0 t }
+
+pub no-text : (i : ℕ) (l t : List ℕ) → i ≤ length l → TextEnd l i t i
+no-text i l t h = record { from = omega arith; to = h; is = λ more. absurd (more refl) }
+
+-- ---- a marker
+
+module _ {i r : ℕ} {l t : List ℕ} (e : TextEnd l i (space ∷ t) r) (plain : all (between 33 126) t ≡ true) (long : 1 ≤ length t) where
+  marker-follows : r ≢ i → Follow l i r (t ∷ [])
+  marker-follows more =
+      let is = e .is more in
+      let size : length t + 1 ≡ r - i = omega (arith, ap length is, length-part i r l (e .to)) in
+      let rest : part (i + 1) r l ≡ t = sym (drop-part i r 1 l) ∙ ap (drop 1) is in
+      let first : getD l i 0 ≡ space = ap (λ (u : List ℕ). getD u 0 0) (sym (part-cons i r l (omega (arith, size)) (e .to)) ∙ is) in
+      spaced (one-space (record { inside = omega (arith, size, e .to); is = first }))
+      (subst (λ (u : List ℕ). Spelled l (i + 1) r (u ∷ [])) rest
+      (plain-spelled (i + 1) r l (omega (arith, size)) (e .to) (ap (all (between 33 126)) rest ∙ plain)))
+      (omega arith)
+
+  pub marker-found : {digit : ℕ} → markerOf (digit - 48) ≡ t → MarkerEnd l i digit r
+  marker-found same =
+      record { from = e .from; to = e .to; is = λ more. subst (λ (u : List ℕ). Follow l i r (u ∷ [])) (sym same) (marker-follows more) }
+
+pub no-marker : (i digit : ℕ) (l : List ℕ) → i ≤ length l → MarkerEnd l i digit i
+no-marker i digit l h = record { from = omega arith; to = h; is = λ more. absurd (more refl) }
+
+-- ---- a number with its value
+
+pub value-read : (t : List ℕ) {r : AnyNumber} {n : ℕ} → numberIn r ≡ numberOf t → r ≡ Value n → n ≤ 65535 → readField number t ≡ value n
+unfolding readFieldOver inBounds held
+value-read t {r} {n} e g h = rw (sym e ∙ ap numberIn g) (simp (le-leb 0 n (omega arith), le-leb n 65535 h))
+
+pub name-read : (t : List ℕ) {r : AnyName} {n : ℕ} → nameIn r ≡ nameOf t → r ≡ Packed n → readField Name t ≡ value n
+unfolding readFieldOver held
+name-read t e g = rw (sym e ∙ ap nameIn g)
+
+pub count-found :
+    {i r v : ℕ} {l : List ℕ} → Stands l i space → FieldEnd isNumber l (i + 1) r → r ≢ i + 1 → readField number (part (i + 1) r l) ≡ value v
+    → CountAt l i (record { end = r; value = v })
+count-found {i} {r} {v} {l} s n far is =
+    record {
+      from = omega (arith, n .from);
+      to = n .to;
+      is = λ more. record { text = part (i + 1) r l; follow = spaced (one-space s) (number-spelled n far) (omega arith); is = is };
+    }
+
+pub no-count : (i v : ℕ) (l : List ℕ) → i ≤ length l → CountAt l i (record { end = i; value = v })
+no-count i v l h = record { from = omega arith; to = h; is = λ more. absurd (more refl) }
+
+-- ---- texts against the kinds that they have to be, with the values that they have
+
+abbrev pub HeldAs : List Kind → List (List ℕ) → List ℕ → Type 0
+HeldAs [] [] [] = Unit {0}
+HeldAs [] [] (v ∷ vs) = ⊥
+HeldAs [] (t ∷ ts) vs = ⊥
+HeldAs (k ∷ ks) [] vs = ⊥
+HeldAs (k ∷ ks) (t ∷ ts) [] = ⊥
+HeldAs (k ∷ ks) (t ∷ ts) (v ∷ vs) = (readField k t ≡ value v) × HeldAs ks ts vs
+
+fits-as : (end : ℕ) (ks : List Kind) (fs : List Field) (vs : List ℕ) → HeldAs ks (texts fs) vs → fit end ks fs ≡ fits vs
+unfolding fitOver inFront
+fits-as end [] [] [] h = refl
+fits-as end [] [] (v ∷ vs) h = absurd h
+fits-as end [] (f ∷ fs) vs h = absurd h
+fits-as end (k ∷ ks) [] vs h = absurd h
+fits-as end (k ∷ ks) (f ∷ fs) [] h = absurd h
+fits-as end (k ∷ ks) (f ∷ fs) (v ∷ vs) h = rw (h .0, fits-as end ks fs vs (h .1))
+
+-- one field more
+held-add :
+    (ks : List Kind) (ts : List (List ℕ)) (vs : List ℕ) (k : Kind) (t : List ℕ) (v : ℕ) → HeldAs ks ts vs → readField k t ≡ value v
+    → HeldAs (ks ++ (k ∷ [])) (ts ++ (t ∷ [])) (vs ++ (v ∷ []))
+held-add [] [] [] j u w h e = (e, tt)
+held-add [] [] (v ∷ vs) j u w h e = absurd h
+held-add [] (t ∷ ts) vs j u w h e = absurd h
+held-add (k ∷ ks) [] vs j u w h e = absurd h
+held-add (k ∷ ks) (t ∷ ts) [] j u w h e = absurd h
+held-add (k ∷ ks) (t ∷ ts) (v ∷ vs) j u w h e = (h .0, held-add ks ts vs j u w (h .1) e)
+
+-- ---- a line of such fields
+
+module _ (e : Expected) (s : Shape) (vs : List ℕ) where
+  fields-say :
+      (end : ℕ) (fs : List Field) → shapeFor e fs ≡ some s → 1 ≤ length (texts fs) → HeldAs (s .kinds) (texts fs) vs
+      → s .says vs ≡ lineOf e end fs
+  unfolding lineOver sayFieldsOver readAsOver said
+  fields-say end [] q n h = absurd (omega arith)
+  fields-say end (f ∷ fs) q n h = rw (q, fits-as end (s .kinds) (f ∷ fs) vs h)
+
+  line-says :
+      (ts : List (List ℕ)) → 1 ≤ length ts → HeldAs (s .kinds) ts vs → ((fs : List Field) → texts fs ≡ ts → shapeFor e fs ≡ some s)
+      → (line : List ℕ) → textsFrom 1 line ≡ ts → all isLegal line ≡ true → length line ≤ 80 → s .says vs ≡ lineAnswer e line
+  unfolding lineAnswerOver testBytes textsFrom fieldsOf
+  line-says ts n h q line are legal short =
+      rw (legal-front 80 line legal short, le-leb (length line) (length line) (omega arith))
+      (fields-say (length line + 1) (fieldsOf line) (q (fieldsOf line) are) (omega (arith, n, ap length are))
+      (subst (λ (us : List (List ℕ)). HeldAs (s .kinds) us vs) (sym are) h))
+
+  line-said :
+      {at end r : ℕ} {l : List ℕ} {ts : List (List ℕ)} → 1 ≤ length ts → HeldAs (s .kinds) ts vs
+      → ((fs : List Field) → texts fs ≡ ts → shapeFor e fs ≡ some s) → Spelled l at end ts → LineEnded l at end r
+      → LineSaid e at l (s .says vs) r
+  line-said {at} {end} {r} {l} {ts} n h q t d =
+      record {
+        line = part at end l;
+        lines = line-stands t d;
+        says = line-says ts n h q (part at end l) (t .fields 1) (t .legal) (d .short);
+        moves = omega (arith, t .from, d .behind);
+        ends = d .inside;
+      }
+
+-- ---- titles
+
+module _
+    {at end r n : ℕ} {l : List ℕ} (f : FieldEnd isName l at end) (more : end ≢ at) (d : LineEnded l at end r)
+    (v : readField Name (part at end l) ≡ value n) where
+  pub opening-said : LineSaid OpeningTitle at l (Opening n) r
+  unfolding recordShape
+  opening-said =
+      line-said OpeningTitle (recordShape openingTitle) (n ∷ []) (omega arith) (v, tt) (λ fs same. unfold shapeFor in refl) (name-spelled f more) d
+
+  pub closing-said : LineSaid ClosingTitle at l (Closing n) r
+  unfolding recordShape
+  closing-said =
+      line-said ClosingTitle (recordShape closingTitle) (n ∷ []) (omega arith) (v, tt) (λ fs same. unfold shapeFor in refl) (name-spelled f more) d
+
+-- ---- headers
+
+-- a code of one digit
+digit-is : (c : ℕ) → c ≤ 7 → numberOf ((48 + c) ∷ []) ≡ some c
+unfolding isNumber all octal
+digit-is c h =
+    let v : 0 * 8 + (48 + c - 48) ≡ c = omega arith in
+    number-is ((48 + c) ∷ [])
+    (and-intro refl
+    (and-intro (and-intro (between-intro 48 55 (48 + c) (omega arith) (omega arith)) refl) (le-leb (0 * 8 + (48 + c - 48)) 65535 (omega arith))))
+    ∙ ap some v
+
+-- it chooses the row
+row-chosen :
+    (c : ℕ) {o : Row} {ts : List (List ℕ)} → c ≤ 7 → rowOf c ≡ some o → (fs : List Field) → texts fs ≡ ((48 + c) ∷ []) ∷ ts
+    → shapeFor AnyHeader fs ≡ some (headerShape o)
+unfolding shapeFor rowAt headerShapeIn
+row-chosen c h e fs same =
+    rw (first-text fs ∙ ap (λ (us : List (List ℕ)). getD us 0 []) same, digit-is c h, e)
+
+same-self : (t : List ℕ) → sameText t t ≡ true
+unfolding sameText
+same-self [] = refl
+same-self (b ∷ t) = and-intro (eq-eqb b b refl) (same-self t)
+
+marker-held : (c : ℕ) → readField (Marker c) (markerOf c) ≡ value 0
+unfolding readFieldOver
+marker-held c = rw (same-self (markerOf c))
+
+any-held : (t : List ℕ) → readField Anything t ≡ value 0
+unfolding readFieldOver
+any-held t = refl
+
+-- the code, fields with these values, and the marker
+header-said :
+    (c : ℕ) (o : Row) {at i b : ℕ} {l : List ℕ} {ts : List (List ℕ)} (vs : List ℕ) {r : Frame} → c ≤ 7 → rowOf c ≡ some o → o .code ≡ c
+    → b ≡ 48 + c → Stands l at b → Follow l (at + 1) i ts → HeldAs (o .fields) ts vs
+    → HeaderEnded l at i b (o .says (0 ∷ (vs ++ (0 ∷ [])))) r → LineSaid AnyHeader at l (r .answer) (r .next)
+header-said c o {at} {i} {b} {l} {ts} vs {r} h e same is s f held d =
+    let k : b - 48 ≡ c = omega arith in
+    let marker : Follow l i (d .end) (markerOf c ∷ []) = subst (λ (n : ℕ). Follow l i (d .end) (markerOf n ∷ [])) k (d .marker) in
+    let front = byte-spelled at (48 + c) l (subst (Stands l at) is s) (between-intro 33 126 (48 + c) (omega arith) (omega arith)) in
+    let last : readField (Marker (o .code)) (markerOf c) ≡ value 0 =
+    subst (λ (n : ℕ). readField (Marker n) (markerOf c) ≡ value 0) (sym same) (marker-held c) in
+    subst (λ (a : LineAnswer). LineSaid AnyHeader at l a (r .next)) (sym (d .tells))
+    (line-said AnyHeader (headerShape o) (0 ∷ (vs ++ (0 ∷ []))) (omega arith)
+    (any-held ((48 + c) ∷ []), held-add (o .fields) ts vs (Marker (o .code)) (markerOf c) 0 held last)
+    (row-chosen c h e) (marker .adds at _ (f .adds at _ front)) (d .line))
+
+-- ---- each header
+
+none-follow : (i : ℕ) (l : List ℕ) → i ≤ length l → Follow l i i []
+none-follow i l h = record { from = omega arith; to = h; adds = λ at front s. rw (append-nil front) s }
+
+module _ {at b : ℕ} {l : List ℕ} {r : Frame} (s : Stands l at b) where
+  bare-said :
+      (c : ℕ) (o : Row) → c ≤ 7 → rowOf c ≡ some o → o .code ≡ c → HeldAs (o .fields) [] [] → b ≡ 48 + c
+      → HeaderEnded l at (at + 1) b (o .says (0 ∷ 0 ∷ [])) r → LineSaid AnyHeader at l (r .answer) (r .next)
+  bare-said c o h e same held is d = header-said c o [] h e same is s (none-follow (at + 1) l (omega (arith, s .inside))) held d
+
+  pub end-said : b ≡ 49 → HeaderEnded l at (at + 1) b EndBlock r → LineSaid AnyHeader at l (r .answer) (r .next)
+  unfolding rowOf headers rowIn
+  end-said = bare-said 1 (row 1 [] "***END" (λ u. EndBlock)) (omega arith) refl refl tt
+
+  pub title-said : b ≡ 51 → HeaderEnded l at (at + 1) b TitleBlock r → LineSaid AnyHeader at l (r .answer) (r .next)
+  unfolding rowOf headers rowIn
+  title-said = bare-said 3 (row 3 [] "***TITLE" (λ u. TitleBlock)) (omega arith) refl refl tt
+
+  pub library-start-said : b ≡ 54 → HeaderEnded l at (at + 1) b LibraryStart r → LineSaid AnyHeader at l (r .answer) (r .next)
+  unfolding rowOf headers rowIn
+  library-start-said = bare-said 6 (row 6 [] "***LSB" (λ u. LibraryStart)) (omega arith) refl refl tt
+
+  pub library-end-said : b ≡ 55 → HeaderEnded l at (at + 1) b LibraryEnd r → LineSaid AnyHeader at l (r .answer) (r .next)
+  unfolding rowOf headers rowIn
+  library-end-said = bare-said 7 (row 7 [] "***LEB" (λ u. LibraryEnd)) (omega arith) refl refl tt
+
+  module _ {i v : ℕ} (n : CountFollows l (at + 1) i v) where
+    pub entries-said : b ≡ 52 → HeaderEnded l at i b (EntryBlock v) r → LineSaid AnyHeader at l (r .answer) (r .next)
+    unfolding rowOf headers rowIn
+    entries-said is d =
+        header-said 4 (row 4 (number ∷ []) "***ENTRY" (λ u. EntryBlock (nth u 1))) (v ∷ []) (omega arith) refl refl is s (n .follow) (n .is, tt) d
+
+    pub externals-said : b ≡ 53 → HeaderEnded l at i b (ExternalBlock v) r → LineSaid AnyHeader at l (r .answer) (r .next)
+    unfolding rowOf headers rowIn
+    externals-said is d =
+        header-said 5 (row 5 (number ∷ []) "***EXT" (λ u. ExternalBlock (nth u 1))) (v ∷ []) (omega arith) refl refl is s (n .follow) (n .is, tt) d
+
+    pub code-said :
+        {j w : ℕ} → CountFollows l i j w → b ≡ 48 → HeaderEnded l at j b (CodeBlock v w) r → LineSaid AnyHeader at l (r .answer) (r .next)
+    unfolding rowOf headers rowIn
+    code-said {j} {w} m is d =
+        header-said 0 (row 0 (number ∷ number ∷ []) "***CODE" (λ u. CodeBlock (nth u 1) (nth u 2))) (v ∷ w ∷ []) (omega arith) refl refl is s
+        (follow-on (n .follow) (m .follow)) (n .is, (m .is, tt)) d
