@@ -29,7 +29,7 @@ use Rattle.text.proofs.ScanLaws.{part-nil, part-cons, length-part, drop-part, p
 use Rattle.runs.specs.Runs.{Stands, FieldEnd, textsFrom, Spelled, Follow, LineEnded}
 use Rattle.runs.proofs.StretchLaws.{part-split, part-one}
 use Rattle.runs.proofs.SpelledLaws.{plain-spelled, one-space, spaced, byte-spelled, number-spelled, name-spelled, follow-on}
-use Rattle.runs.proofs.AnswerLaws.{texts, number-is, legal-front, first-text}
+use Rattle.runs.proofs.AnswerLaws.{texts, digit-is, legal-front, first-text}
 use Rattle.runs.proofs.LineReadLaws.{line-stands}
 use Rattle.framing.specs.Framing.{TextEnd, MarkerEnd, CountFollows, CountAt, HeaderEnded, LineSaid}
 use Rattle.framing.specs.declared.Frame.{Frame}
@@ -184,14 +184,10 @@ module _
 -- ---- headers
 
 -- a code of one digit
-digit-is : (c : ℕ) → c ≤ 7 → numberOf ((48 + c) ∷ []) ≡ some c
-unfolding isNumber all octal
-digit-is c h =
-    let v : 0 * 8 + (48 + c - 48) ≡ c = omega arith in
-    number-is ((48 + c) ∷ [])
-    (and-intro refl
-    (and-intro (and-intro (between-intro 48 55 (48 + c) (omega arith) (omega arith)) refl) (le-leb (0 * 8 + (48 + c - 48)) 65535 (omega arith))))
-    ∙ ap some v
+code-is : (c : ℕ) → c ≤ 7 → numberOf ((48 + c) ∷ []) ≡ some c
+code-is c h =
+    let v : 48 + c - 48 ≡ c = omega arith in
+    digit-is (48 + c) (omega arith) (omega arith) ∙ ap some v
 
 -- it chooses the row
 row-chosen :
@@ -199,7 +195,7 @@ row-chosen :
     → shapeFor AnyHeader fs ≡ some (headerShape o)
 unfolding shapeFor rowAt headerShapeIn
 row-chosen c h e fs same =
-    rw (first-text fs ∙ ap (λ (us : List (List ℕ)). getD us 0 []) same, digit-is c h, e)
+    rw (first-text fs ∙ ap (λ (us : List (List ℕ)). getD us 0 []) same, code-is c h, e)
 
 same-self : (t : List ℕ) → sameText t t ≡ true
 unfolding sameText

@@ -34,7 +34,7 @@ struct Count {
 }
 
 // Nothing is said.
-fn declined() -> Frame
+pub fn declined() -> Frame
     ensures { λ r. ⌜ r .fits ≡ false ⌝ }
 {
     Frame {

@@ -27,6 +27,7 @@ use Rattle.text.specs.Scan.{part}
 use Rattle.text.specs.LineEnds.{NextLine}
 use Rattle.text.specs.declared.lines.LineSpan.{LineSpan}
 use Rattle.text.proofs.LineLaws.{no-line}
+use Rattle.framing.specs.Framing.{LineSaid}
 use Rattle.usual.specs.Words.{WordRead}
 use Rattle.usual.specs.declared.UsualWord.{UsualWord}
 use Rattle.reading.specs.TwoTables.{Tables, empty, addPart, addModule, addSection, emit, tablesFrom, tablesOf}
@@ -123,7 +124,20 @@ module _ (file : List ℕ) (p : Place) (keep : Bool) (lentParts lentRows : List 
           ends = l .ends;
         }
 
-    -- the same of a code word that was read in one pass
+    -- the same of a line of which it is told what it says
+    pub said-turn :
+        {h : Mode} → h ≡ m → {a : LineAnswer} {next : ℕ} → LineSaid (h .expected) at file a next → {s : Step} → s ≡ stepOf n h a
+        → Turn m n at next s
+    said-turn {h} g l {s} q =
+        record {
+          line = l .line;
+          lines = l .lines;
+          is = q ∙ ap (stepOf n h) (l .says) ∙ ap (λ (k : Mode). stepAt n k (l .line)) g;
+          moves = l .moves;
+          ends = l .ends;
+        }
+
+    -- and of a code word that was read in one pass
     pub word-turn :
         {h : Mode} → h ≡ m → {w : UsualWord} → WordRead (h .expected) at file w → {x : CodeWord} → x ≡ codeWord (w .text) Plain
         → {k : Mode} → k ≡ recordDone CodeRecord h → {q : Part} → q ≡ wordPart h x → Turn m n at (w .next) (Add k q)

@@ -1,14 +1,14 @@
 // The lines of a file, read one after the other: for a load into the two tables, or for their first fault alone.
 pub mod fill;
 pub mod keep;
+pub mod said;
 
 use crate::fill::Filled;
 use crate::fill::nothing;
 use crate::keep::keep_module;
 use crate::keep::keep_part;
 use crate::keep::keep_section;
-use line::line_answer;
-use line_reader::line_from;
+use crate::said::said_at;
 use rules::line::CodeWord;
 use rules::line::Expected;
 use rules::line::Relocation;
@@ -155,10 +155,10 @@ pub fn read_lines(
             at = word.next;
             continue;
         }
-        let span = line_from(file, at);
-        let answer = line_answer(file, at, span.stop, span.front, expected);
+        let said = said_at(file, at, expected, keep);
+        let answer = said.answer;
         let step = step_of(n, here, answer);
-        at = span.next;
+        at = said.next;
         match step {
             Step::Stop { number, column } => return stopped(number, n, column, filled),
             Step::Next(m) => mode = m,

@@ -71,22 +71,25 @@ pub name-held : (t : List ℕ) → isName t ≡ true → (v : ℕ) × (readField
 unfolding readFieldOver held nameOver
 name-held t h = (packName t, rw h)
 
+-- one digit
+pub digit-is : (b : ℕ) → 48 ≤ b → b ≤ 55 → numberOf (b ∷ []) ≡ some (b - 48)
+unfolding isNumber all octal
+digit-is b low high =
+    let v : 0 * 8 + (b - 48) ≡ b - 48 = omega arith in
+    number-is (b ∷ [])
+    (and-intro refl (and-intro (and-intro (between-intro 48 55 b low high) refl) (le-leb (0 * 8 + (b - 48)) 65535 (omega arith))))
+    ∙ ap some v
+
 -- the digits that the type of an entry can be
 zero-is : numberOf (48 ∷ []) ≡ some 0
-unfolding numberOf isNumber all octal
-zero-is = refl
+zero-is = digit-is 48 (omega arith) (omega arith)
 
 one-is : numberOf (49 ∷ []) ≡ some 1
-unfolding numberOf isNumber all octal
-one-is = refl
+one-is = digit-is 49 (omega arith) (omega arith)
 
--- of a word, one of 1 to 5
+-- and that of a word
 type-held : (b : ℕ) → 49 ≤ b → b ≤ 53 → (v : ℕ) × (readField (Number 1 5 BadType) (b ∷ []) ≡ value v)
-unfolding isNumber all octal
-type-held b low high =
-    bounded-held 1 5 BadType (b ∷ [])
-    (number-is (b ∷ []) (and-intro refl (and-intro (and-intro (between-intro 48 55 b (omega arith) (omega arith)) refl) (le-leb (0 * 8 + (b - 48)) 65535 (omega arith)))))
-    (between-intro 1 5 (0 * 8 + (b - 48)) (omega arith) (omega arith))
+type-held b low high = bounded-held 1 5 BadType (b ∷ []) (digit-is b (omega arith) (omega arith)) (between-intro 1 5 (b - 48) (omega arith) (omega arith))
 
 -- a number is no asterisk
 no-star : (t : List ℕ) → isNumber t ≡ true → sameText t (42 ∷ []) ≡ false

@@ -11,7 +11,7 @@ use Rattle.rules.specs.declared.reading.Mode.{Mode}
 use Rattle.rules.specs.declared.reading.Step.{Step}
 use Rattle.rules.specs.declared.reading.Step.the-variants.{Add}
 use Rattle.runs.proofs.ModeLaws.{room-most}
-use Rattle.reading.proofs.LoopLaws.{Before, Turn, start, turn, word-turn, empty-turn, faulty, skipped, run-on, part-room, added, module-room, module-closed, section-room, section-closed, whole}
+use Rattle.reading.proofs.LoopLaws.{Before, Turn, start, said-turn, word-turn, empty-turn, faulty, skipped, run-on, part-room, added, module-room, module-closed, section-room, section-closed, whole}
 use Rattle.reading.proofs.read_lines.Statement.{statement}
 use Rattle.reading.proofs.read_lines.Tie as tie
 
@@ -34,11 +34,9 @@ worded c e =
 -- the line's step is s
 stepped :
     (c : tie.After-step-of Inv-loop μ-loop) {s : Step} → c .step-of .result ≡ s
-    → Turn (c .before .before .before .before .before .before .before .before .before .before .before .before .before .before .before .before .before .before .args .file .now) (c .before .before .before .before .before .before .before .before .before .before .before .before .before .before .before .before .before .before .args .from) (c .before .before .before .before .before .before .before .before .before .before .before .before .before .before .before .before .before .before .args .keep) (c .before .before .before .before .before .before .before .before .before .before .before .before .before .before .before .before .before .before .args .parts .now) (c .before .before .before .before .before .before .before .before .before .before .before .before .before .before .before .before .before .before .args .rows .now)
-    (c .before .before .before .before .before .before .before .before .before .before .before .before .loop .mode) (c .before .before .before .before .before .before .before .before .before .before .before .before .loop .line) (c .before .before .before .before .before .before .before .before .before .before .before .before .loop .at) (c .before .before .line-from .result .next) s
-stepped c e =
-    turn _ _ _ _ _ _ _ _ (c .before .before .line-from .ensures) (c .before .before .before .before .before .before .before .before .renewed .ensures) (c .before .line-answer .ensures)
-    (sym e ∙ c .step-of .ensures)
+    → Turn (c .before .before .before .before .before .before .before .before .before .before .before .before .before .before .before .before .before .args .file .now) (c .before .before .before .before .before .before .before .before .before .before .before .before .before .before .before .before .before .args .from) (c .before .before .before .before .before .before .before .before .before .before .before .before .before .before .before .before .before .args .keep) (c .before .before .before .before .before .before .before .before .before .before .before .before .before .before .before .before .before .args .parts .now) (c .before .before .before .before .before .before .before .before .before .before .before .before .before .before .before .before .before .args .rows .now)
+    (c .before .before .before .before .before .before .before .before .before .before .before .loop .mode) (c .before .before .before .before .before .before .before .before .before .before .before .loop .line) (c .before .before .before .before .before .before .before .before .before .before .before .loop .at) (c .before .said-at .result .next) s
+stepped c e = said-turn _ _ _ _ _ _ _ _ (c .before .before .before .before .before .before .before .renewed .ensures) (c .before .said-at .ensures) (sym e ∙ c .step-of .ensures)
 
 nothing-requires : tie.Need-nothing-requires Inv-loop μ-loop
 nothing-requires c κs = search needs
@@ -111,11 +109,8 @@ loop-again-3 c =
     let q = c .before .before .before .before in
     added _ _ _ _ _ (q .before .before .before .before .before .before .before .before .before .before .before .before .loop .inv) (worded q (c .record-done .ensures)) (c .before .before .before .keep-part .ensures) (c .before .before .before .keep-part .kept .1 .0)
 
-line-from-requires : tie.Need-line-from-requires Inv-loop μ-loop
-line-from-requires c κs = search needs
-
-line-answer-requires : tie.Need-line-answer-requires Inv-loop μ-loop
-line-answer-requires c κs = search needs
+said-at-requires : tie.Need-said-at-requires Inv-loop μ-loop
+said-at-requires c κs = search needs
 
 step-of-requires : tie.Need-step-of-requires Inv-loop μ-loop
 step-of-requires c κs = search needs
@@ -127,15 +122,15 @@ stopped-requires : tie.Need-stopped-requires Inv-loop μ-loop
 stopped-requires c κs = search needs
 
 same-length : tie.Need-same-length Inv-loop μ-loop
-same-length c = c .before .before .before .before .before .before .before .before .before .before .before .before .before .before .before .before .loop .inv .part-length
+same-length c = c .before .before .before .before .before .before .before .before .before .before .before .before .before .before .before .loop .inv .part-length
 
 same-length-2 : tie.Need-same-length-2 Inv-loop μ-loop
-same-length-2 c = c .before .before .before .before .before .before .before .before .before .before .before .before .before .before .before .before .loop .inv .row-length
+same-length-2 c = c .before .before .before .before .before .before .before .before .before .before .before .before .before .before .before .loop .inv .row-length
 
 returns : tie.Need-returns Inv-loop μ-loop
 returns c =
     let q = c .before .before .before .before in
-    faulty _ _ _ _ _ (q .before .before .before .before .before .before .before .before .before .before .before .before .loop .inv) (stepped q (c .before .before .step .given .1)) (c .stopped .ensures)
+    faulty _ _ _ _ _ (q .before .before .before .before .before .before .before .before .before .before .before .loop .inv) (stepped q (c .before .before .step .given .1)) (c .stopped .ensures)
 
 enum-known-step-2 : tie.Need-enum-known-step-2 Inv-loop μ-loop
 enum-known-step-2 c = search needs
@@ -146,7 +141,7 @@ loop-less-4 c = search needs
 loop-again-4 : tie.Need-loop-again-4 Inv-loop μ-loop
 loop-again-4 c =
     let q = c .before .before .before in
-    skipped _ _ _ _ _ (q .before .before .before .before .before .before .before .before .before .before .before .before .loop .inv) (stepped q (c .before .step2 .given .1))
+    skipped _ _ _ _ _ (q .before .before .before .before .before .before .before .before .before .before .before .loop .inv) (stepped q (c .before .step2 .given .1))
 
 enum-known-step-3 : tie.Need-enum-known-step-3 Inv-loop μ-loop
 enum-known-step-3 c = search needs
@@ -154,7 +149,7 @@ enum-known-step-3 c = search needs
 keep-part-requires-2 : tie.Need-keep-part-requires-2 Inv-loop μ-loop
 keep-part-requires-2 c κs =
     let q = c .before .before .before .before in
-    part-room _ _ _ _ _ (q .before .before .before .before .before .before .before .before .before .before .before .before .loop .inv) (stepped q (c .before .before .step3 .given .1))
+    part-room _ _ _ _ _ (q .before .before .before .before .before .before .before .before .before .before .before .loop .inv) (stepped q (c .before .before .step3 .given .1))
 
 loop-less-5 : tie.Need-loop-less-5 Inv-loop μ-loop
 loop-less-5 c = search needs
@@ -162,7 +157,7 @@ loop-less-5 c = search needs
 loop-again-5 : tie.Need-loop-again-5 Inv-loop μ-loop
 loop-again-5 c =
     let q = c .before .before .before .before .before .before .before in
-    added _ _ _ _ _ (q .before .before .before .before .before .before .before .before .before .before .before .before .loop .inv) (stepped q (c .before .before .before .before .before .step3 .given .1)) (c .before .before .keep-part2 .ensures) (c .before .before .keep-part2 .kept .1 .0)
+    added _ _ _ _ _ (q .before .before .before .before .before .before .before .before .before .before .before .loop .inv) (stepped q (c .before .before .before .before .before .step3 .given .1)) (c .before .before .keep-part2 .ensures) (c .before .before .keep-part2 .kept .1 .0)
 
 enum-known-step-4 : tie.Need-enum-known-step-4 Inv-loop μ-loop
 enum-known-step-4 c = search needs
@@ -170,7 +165,7 @@ enum-known-step-4 c = search needs
 keep-module-requires : tie.Need-keep-module-requires Inv-loop μ-loop
 keep-module-requires c κs =
     let q = c .before .before .before .before in
-    module-room _ _ _ _ _ (q .before .before .before .before .before .before .before .before .before .before .before .before .loop .inv) (stepped q (c .before .before .step4 .given .1))
+    module-room _ _ _ _ _ (q .before .before .before .before .before .before .before .before .before .before .before .loop .inv) (stepped q (c .before .before .step4 .given .1))
 
 loop-less-6 : tie.Need-loop-less-6 Inv-loop μ-loop
 loop-less-6 c = search needs
@@ -178,7 +173,7 @@ loop-less-6 c = search needs
 loop-again-6 : tie.Need-loop-again-6 Inv-loop μ-loop
 loop-again-6 c =
     let q = c .before .before .before .before .before .before .before in
-    module-closed _ _ _ _ _ (q .before .before .before .before .before .before .before .before .before .before .before .before .loop .inv) (c .before .before .keep-module .kept .1 .0) (stepped q (c .before .before .before .before .before .step4 .given .1)) (c .before .before .keep-module .ensures)
+    module-closed _ _ _ _ _ (q .before .before .before .before .before .before .before .before .before .before .before .loop .inv) (c .before .before .keep-module .kept .1 .0) (stepped q (c .before .before .before .before .before .step4 .given .1)) (c .before .before .keep-module .ensures)
 
 enum-known-step-5 : tie.Need-enum-known-step-5 Inv-loop μ-loop
 enum-known-step-5 c = search needs
@@ -186,7 +181,7 @@ enum-known-step-5 c = search needs
 keep-section-requires : tie.Need-keep-section-requires Inv-loop μ-loop
 keep-section-requires c κs =
     let q = c .before .before .before .before in
-    section-room _ _ _ _ _ (q .before .before .before .before .before .before .before .before .before .before .before .before .loop .inv) (stepped q (c .before .before .step5 .given .1))
+    section-room _ _ _ _ _ (q .before .before .before .before .before .before .before .before .before .before .before .loop .inv) (stepped q (c .before .before .step5 .given .1))
 
 loop-less-7 : tie.Need-loop-less-7 Inv-loop μ-loop
 loop-less-7 c = search needs
@@ -194,7 +189,7 @@ loop-less-7 c = search needs
 loop-again-7 : tie.Need-loop-again-7 Inv-loop μ-loop
 loop-again-7 c =
     let q = c .before .before .before .before .before .before .before in
-    section-closed _ _ _ _ _ (q .before .before .before .before .before .before .before .before .before .before .before .before .loop .inv) (c .before .before .keep-section .kept .1 .0) (stepped q (c .before .before .before .before .before .step5 .given .1)) (c .before .before .keep-section .ensures)
+    section-closed _ _ _ _ _ (q .before .before .before .before .before .before .before .before .before .before .before .loop .inv) (c .before .before .keep-section .kept .1 .0) (stepped q (c .before .before .before .before .before .step5 .given .1)) (c .before .before .keep-section .ensures)
 
 same-length-3 : tie.Need-same-length-3 Inv-loop μ-loop
 same-length-3 c = c .before .loop .inv .part-length
@@ -233,8 +228,7 @@ read-lines-spec =
     record-done-requires
     loop-less-3
     loop-again-3
-    line-from-requires
-    line-answer-requires
+    said-at-requires
     step-of-requires
     enum-known-step
     stopped-requires
