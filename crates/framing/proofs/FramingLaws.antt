@@ -19,6 +19,7 @@ use Rattle.rules.specs.declared.line.Kind.the-variants.{Name, Anything, Marker}
 use Rattle.rules.specs.declared.line.LineAnswer.{LineAnswer}
 use Rattle.rules.specs.declared.line.LineAnswer.the-variants.{Opening, Closing}
 use Rattle.rules.proofs.TestLaws.{and-intro, between-intro}
+use Rattle.text.specs.FieldBounds.{isSpace}
 use Rattle.text.specs.Scan.{part}
 use Rattle.text.specs.Values.{numberIn, nameIn}
 use Rattle.text.specs.declared.numbers.Number.{Number as AnyNumber}
@@ -26,12 +27,12 @@ use Rattle.text.specs.declared.numbers.Number.the-variants.{Value}
 use Rattle.text.specs.declared.names.Name.{Name as AnyName}
 use Rattle.text.specs.declared.names.Name.the-variants.{Packed}
 use Rattle.text.proofs.ScanLaws.{part-nil, part-cons, length-part, drop-part, part-all}
-use Rattle.runs.specs.Runs.{Stands, FieldEnd, textsFrom, Spelled, Follow, LineEnded}
+use Rattle.runs.specs.Runs.{Stands, Stretch, FieldEnd, textsFrom, Spelled, Follow, LineEnded}
 use Rattle.runs.proofs.StretchLaws.{part-split, part-one}
-use Rattle.runs.proofs.SpelledLaws.{plain-spelled, one-space, spaced, byte-spelled, number-spelled, name-spelled, follow-on}
+use Rattle.runs.proofs.SpelledLaws.{plain-spelled, spaced, gap-spelled, byte-spelled, number-spelled, name-spelled, follow-on}
 use Rattle.runs.proofs.AnswerLaws.{texts, digit-is, legal-front, first-text}
 use Rattle.runs.proofs.LineReadLaws.{line-stands}
-use Rattle.framing.specs.Framing.{TextEnd, MarkerEnd, CountFollows, CountAt, HeaderEnded, LineSaid}
+use Rattle.framing.specs.Framing.{TextEnd, MarkerEnd, CountStands, CountAt, Begun, HeaderEnded, LineSaid}
 use Rattle.framing.specs.declared.Frame.{Frame}
 
 -- what is declined promises nothing
@@ -62,21 +63,18 @@ no-text i l t h = record { from = omega arith; to = h; is = λ more. absurd (mor
 
 -- ---- a marker
 
-module _ {i r : ℕ} {l t : List ℕ} (e : TextEnd l i (space ∷ t) r) (plain : all (between 33 126) t ≡ true) (long : 1 ≤ length t) where
-  marker-follows : r ≢ i → Follow l i r (t ∷ [])
-  marker-follows more =
-      let is = e .is more in
-      let size : length t + 1 ≡ r - i = omega (arith, ap length is, length-part i r l (e .to)) in
-      let rest : part (i + 1) r l ≡ t = sym (drop-part i r 1 l) ∙ ap (drop 1) is in
-      let first : getD l i 0 ≡ space = ap (λ (u : List ℕ). getD u 0 0) (sym (part-cons i r l (omega (arith, size)) (e .to)) ∙ is) in
-      spaced (one-space (record { inside = omega (arith, size, e .to); is = first }))
-      (subst (λ (u : List ℕ). Spelled l (i + 1) r (u ∷ [])) rest
-      (plain-spelled (i + 1) r l (omega (arith, size)) (e .to) (ap (all (between 33 126)) rest ∙ plain)))
-      (omega arith)
-
-  pub marker-found : {digit : ℕ} → markerOf (digit - 48) ≡ t → MarkerEnd l i digit r
-  marker-found same =
-      record { from = e .from; to = e .to; is = λ more. subst (λ (u : List ℕ). Follow l i r (u ∷ [])) (sym same) (marker-follows more) }
+pub marker-found :
+    {i r : ℕ} {l t : List ℕ} {digit : ℕ} → TextEnd l i t r → all (between 33 126) t ≡ true → markerOf (digit - 48) ≡ t → MarkerEnd l i digit r
+marker-found {i} {r} {l} {t} e plain same =
+    record {
+      from = e .from;
+      to = e .to;
+      is =
+          λ more.
+          let is = e .is more in
+          subst (λ (u : List ℕ). Spelled l i r (u ∷ [])) (is ∙ sym same)
+          (plain-spelled i r l (omega (arith, e .from)) (e .to) (ap (all (between 33 126)) is ∙ plain));
+    }
 
 pub no-marker : (i digit : ℕ) (l : List ℕ) → i ≤ length l → MarkerEnd l i digit i
 no-marker i digit l h = record { from = omega arith; to = h; is = λ more. absurd (more refl) }
@@ -92,16 +90,18 @@ unfolding readFieldOver held
 name-read t e g = rw (sym e ∙ ap nameIn g)
 
 pub count-found :
-    {i r v : ℕ} {l : List ℕ} → Stands l i space → FieldEnd isNumber l (i + 1) r → r ≢ i + 1 → readField number (part (i + 1) r l) ≡ value v
-    → CountAt l i (record { end = r; value = v })
-count-found {i} {r} {v} {l} s n far is =
+    {i end b v : ℕ} {l : List ℕ} → FieldEnd isNumber l i end → end ≢ i → Stretch isSpace l end b → b ≢ end
+    → readField number (part i end l) ≡ value v → CountAt l i (record { behind = b; value = v })
+count-found {i} {end} {b} {v} {l} n far gap apart is =
     record {
-      from = omega (arith, n .from);
-      to = n .to;
-      is = λ more. record { text = part (i + 1) r l; follow = spaced (one-space s) (number-spelled n far) (omega arith); is = is };
+      from = omega (arith, n .from, gap .from);
+      to = gap .to;
+      is =
+          λ more.
+          record { end = end; text = part i end l; spelled = number-spelled n far; is = is; gap = gap; some = omega (arith, gap .from) };
     }
 
-pub no-count : (i v : ℕ) (l : List ℕ) → i ≤ length l → CountAt l i (record { end = i; value = v })
+pub no-count : (i v : ℕ) (l : List ℕ) → i ≤ length l → CountAt l i (record { behind = i; value = v })
 no-count i v l h = record { from = omega arith; to = h; is = λ more. absurd (more refl) }
 
 -- ---- texts against the kinds that they have to be, with the values that they have
@@ -169,17 +169,18 @@ module _ (e : Expected) (s : Shape) (vs : List ℕ) where
 -- ---- titles
 
 module _
-    {at end r n : ℕ} {l : List ℕ} (f : FieldEnd isName l at end) (more : end ≢ at) (d : LineEnded l at end r)
-    (v : readField Name (part at end l) ≡ value n) where
+    {at s end r n : ℕ} {l : List ℕ} (gap : Stretch isSpace l at s) (f : FieldEnd isName l s end) (more : end ≢ s) (d : LineEnded l at end r)
+    (v : readField Name (part s end l) ≡ value n) where
+  spelled : Spelled l at end (part s end l ∷ [])
+  spelled = gap-spelled gap (name-spelled f more)
+
   pub opening-said : LineSaid OpeningTitle at l (Opening n) r
   unfolding recordShape
-  opening-said =
-      line-said OpeningTitle (recordShape openingTitle) (n ∷ []) (omega arith) (v, tt) (λ fs same. unfold shapeFor in refl) (name-spelled f more) d
+  opening-said = line-said OpeningTitle (recordShape openingTitle) (n ∷ []) (omega arith) (v, tt) (λ fs same. unfold shapeFor in refl) spelled d
 
   pub closing-said : LineSaid ClosingTitle at l (Closing n) r
   unfolding recordShape
-  closing-said =
-      line-said ClosingTitle (recordShape closingTitle) (n ∷ []) (omega arith) (v, tt) (λ fs same. unfold shapeFor in refl) (name-spelled f more) d
+  closing-said = line-said ClosingTitle (recordShape closingTitle) (n ∷ []) (omega arith) (v, tt) (λ fs same. unfold shapeFor in refl) spelled d
 
 -- ---- headers
 
@@ -210,63 +211,81 @@ any-held : (t : List ℕ) → readField Anything t ≡ value 0
 unfolding readFieldOver
 any-held t = refl
 
--- the code, fields with these values, and the marker
+-- the code, fields with these values up to e, and the marker at i
 header-said :
-    (c : ℕ) (o : Row) {at i b : ℕ} {l : List ℕ} {ts : List (List ℕ)} (vs : List ℕ) {r : Frame} → c ≤ 7 → rowOf c ≡ some o → o .code ≡ c
-    → b ≡ 48 + c → Stands l at b → Follow l (at + 1) i ts → HeldAs (o .fields) ts vs
+    (c : ℕ) (o : Row) {at j e i b : ℕ} {l : List ℕ} {ts : List (List ℕ)} (vs : List ℕ) {r : Frame} → c ≤ 7 → rowOf c ≡ some o → o .code ≡ c
+    → b ≡ 48 + c → (g : Begun l at j b) → Follow l (g .start + 1) e ts → Stretch isSpace l e i → e < i → HeldAs (o .fields) ts vs
     → HeaderEnded l at i b (o .says (0 ∷ (vs ++ (0 ∷ [])))) r → LineSaid AnyHeader at l (r .answer) (r .next)
-header-said c o {at} {i} {b} {l} {ts} vs {r} h e same is s f held d =
+header-said c o {at} {j} {e} {i} {b} {l} {ts} vs {r} h chosen same is g f gap more held d =
     let k : b - 48 ≡ c = omega arith in
-    let marker : Follow l i (d .end) (markerOf c ∷ []) = subst (λ (n : ℕ). Follow l i (d .end) (markerOf n ∷ [])) k (d .marker) in
-    let front = byte-spelled at (48 + c) l (subst (Stands l at) is s) (between-intro 33 126 (48 + c) (omega arith) (omega arith)) in
+    let marker : Spelled l i (d .end) (markerOf c ∷ []) = subst (λ (n : ℕ). Spelled l i (d .end) (markerOf n ∷ [])) k (d .marker) in
+    let first = byte-spelled (g .start) (48 + c) l (subst (Stands l (g .start)) is (g .code)) (between-intro 33 126 (48 + c) (omega arith) (omega arith)) in
     let last : readField (Marker (o .code)) (markerOf c) ≡ value 0 =
     subst (λ (n : ℕ). readField (Marker n) (markerOf c) ≡ value 0) (sym same) (marker-held c) in
     subst (λ (a : LineAnswer). LineSaid AnyHeader at l a (r .next)) (sym (d .tells))
     (line-said AnyHeader (headerShape o) (0 ∷ (vs ++ (0 ∷ []))) (omega arith)
     (any-held ((48 + c) ∷ []), held-add (o .fields) ts vs (Marker (o .code)) (markerOf c) 0 held last)
-    (row-chosen c h e) (marker .adds at _ (f .adds at _ front)) (d .line))
+    (row-chosen c h chosen) (spaced gap marker more .adds at _ (f .adds at _ (gap-spelled (g .front) first))) (d .line))
 
 -- ---- each header
+
+pub begins :
+    {at s i b : ℕ} {l : List ℕ} → Stretch isSpace l at s → s ≢ length l → Stretch isSpace l (s + 1) i → i ≢ s + 1 → getD l s 0 ≡ b
+    → Begun l at i b
+begins {s = s} front inside gap apart is =
+    record {
+      start = s;
+      front = front;
+      code = record { inside = omega (arith, front .to); is = is };
+      gap = gap;
+      some = omega (arith, gap .from);
+    }
 
 none-follow : (i : ℕ) (l : List ℕ) → i ≤ length l → Follow l i i []
 none-follow i l h = record { from = omega arith; to = h; adds = λ at front s. rw (append-nil front) s }
 
-module _ {at b : ℕ} {l : List ℕ} {r : Frame} (s : Stands l at b) where
+counts : {at j b i v : ℕ} {l : List ℕ} (g : Begun l at j b) (n : CountStands l j i v) → Follow l (g .start + 1) (n .end) (n .text ∷ [])
+counts g n = spaced (g .gap) (n .spelled) (g .some)
+
+module _ {at j b : ℕ} {l : List ℕ} {r : Frame} (g : Begun l at j b) where
   bare-said :
       (c : ℕ) (o : Row) → c ≤ 7 → rowOf c ≡ some o → o .code ≡ c → HeldAs (o .fields) [] [] → b ≡ 48 + c
-      → HeaderEnded l at (at + 1) b (o .says (0 ∷ 0 ∷ [])) r → LineSaid AnyHeader at l (r .answer) (r .next)
-  bare-said c o h e same held is d = header-said c o [] h e same is s (none-follow (at + 1) l (omega (arith, s .inside))) held d
+      → HeaderEnded l at j b (o .says (0 ∷ 0 ∷ [])) r → LineSaid AnyHeader at l (r .answer) (r .next)
+  bare-said c o h e same held is d =
+      header-said c o [] h e same is g (none-follow (g .start + 1) l (omega (arith, g .code .inside))) (g .gap) (g .some) held d
 
-  pub end-said : b ≡ 49 → HeaderEnded l at (at + 1) b EndBlock r → LineSaid AnyHeader at l (r .answer) (r .next)
+  pub end-said : b ≡ 49 → HeaderEnded l at j b EndBlock r → LineSaid AnyHeader at l (r .answer) (r .next)
   unfolding rowOf headers rowIn
   end-said = bare-said 1 (row 1 [] "***END" (λ u. EndBlock)) (omega arith) refl refl tt
 
-  pub title-said : b ≡ 51 → HeaderEnded l at (at + 1) b TitleBlock r → LineSaid AnyHeader at l (r .answer) (r .next)
+  pub title-said : b ≡ 51 → HeaderEnded l at j b TitleBlock r → LineSaid AnyHeader at l (r .answer) (r .next)
   unfolding rowOf headers rowIn
   title-said = bare-said 3 (row 3 [] "***TITLE" (λ u. TitleBlock)) (omega arith) refl refl tt
 
-  pub library-start-said : b ≡ 54 → HeaderEnded l at (at + 1) b LibraryStart r → LineSaid AnyHeader at l (r .answer) (r .next)
+  pub library-start-said : b ≡ 54 → HeaderEnded l at j b LibraryStart r → LineSaid AnyHeader at l (r .answer) (r .next)
   unfolding rowOf headers rowIn
   library-start-said = bare-said 6 (row 6 [] "***LSB" (λ u. LibraryStart)) (omega arith) refl refl tt
 
-  pub library-end-said : b ≡ 55 → HeaderEnded l at (at + 1) b LibraryEnd r → LineSaid AnyHeader at l (r .answer) (r .next)
+  pub library-end-said : b ≡ 55 → HeaderEnded l at j b LibraryEnd r → LineSaid AnyHeader at l (r .answer) (r .next)
   unfolding rowOf headers rowIn
   library-end-said = bare-said 7 (row 7 [] "***LEB" (λ u. LibraryEnd)) (omega arith) refl refl tt
 
-  module _ {i v : ℕ} (n : CountFollows l (at + 1) i v) where
+  module _ {i v : ℕ} (n : CountStands l j i v) where
     pub entries-said : b ≡ 52 → HeaderEnded l at i b (EntryBlock v) r → LineSaid AnyHeader at l (r .answer) (r .next)
     unfolding rowOf headers rowIn
     entries-said is d =
-        header-said 4 (row 4 (number ∷ []) "***ENTRY" (λ u. EntryBlock (nth u 1))) (v ∷ []) (omega arith) refl refl is s (n .follow) (n .is, tt) d
+        header-said 4 (row 4 (number ∷ []) "***ENTRY" (λ u. EntryBlock (nth u 1))) (v ∷ []) (omega arith) refl refl is g (counts g n) (n .gap) (n .some)
+        (n .is, tt) d
 
     pub externals-said : b ≡ 53 → HeaderEnded l at i b (ExternalBlock v) r → LineSaid AnyHeader at l (r .answer) (r .next)
     unfolding rowOf headers rowIn
     externals-said is d =
-        header-said 5 (row 5 (number ∷ []) "***EXT" (λ u. ExternalBlock (nth u 1))) (v ∷ []) (omega arith) refl refl is s (n .follow) (n .is, tt) d
+        header-said 5 (row 5 (number ∷ []) "***EXT" (λ u. ExternalBlock (nth u 1))) (v ∷ []) (omega arith) refl refl is g (counts g n) (n .gap) (n .some)
+        (n .is, tt) d
 
     pub code-said :
-        {j w : ℕ} → CountFollows l i j w → b ≡ 48 → HeaderEnded l at j b (CodeBlock v w) r → LineSaid AnyHeader at l (r .answer) (r .next)
+        {k w : ℕ} → CountStands l i k w → b ≡ 48 → HeaderEnded l at k b (CodeBlock v w) r → LineSaid AnyHeader at l (r .answer) (r .next)
     unfolding rowOf headers rowIn
-    code-said {j} {w} m is d =
-        header-said 0 (row 0 (number ∷ number ∷ []) "***CODE" (λ u. CodeBlock (nth u 1) (nth u 2))) (v ∷ w ∷ []) (omega arith) refl refl is s
-        (follow-on (n .follow) (m .follow)) (n .is, (m .is, tt)) d
+    code-said {k} {w} m is d =
+        header-said 0 (row 0 (number ∷ number ∷ []) "***CODE" (λ u. CodeBlock (nth u 1) (nth u 2))) (v ∷ w ∷ []) (omega arith) refl refl is g
+        (follow-on (counts g n) (spaced (n .gap) (m .spelled) (n .some))) (m .gap) (m .some) (n .is, (m .is, tt)) d

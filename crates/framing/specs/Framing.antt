@@ -1,5 +1,5 @@
 -- What is promised of a header or a title that is read in one pass.
-use Prim.Native.Nat.{ℕ, _-_, _≤_, _<_}
+use Prim.Native.Nat.{ℕ, _+_, _-_, _≤_, _<_}
 use mathlib.Core.Bool.{Bool, cond}
 use mathlib.Core.List.{List, [], _∷_}
 use mathlib.Core.Logic.{_≢_}
@@ -13,7 +13,8 @@ use Rattle.rules.specs.declared.line.Header.{Header}
 use Rattle.rules.specs.declared.line.LineAnswer.{LineAnswer}
 use Rattle.rules.specs.declared.line.LineAnswer.the-variants.{Head}
 use Rattle.text.specs.Scan.{part}
-use Rattle.runs.specs.Runs.{Follow, LineEnded}
+use Rattle.text.specs.FieldBounds.{isSpace}
+use Rattle.runs.specs.Runs.{Stands, Stretch, Spelled, LineEnded}
 use Rattle.framing.specs.declared.Count.{Count}
 use Rattle.framing.specs.declared.Frame.{Frame}
 
@@ -25,30 +26,41 @@ pub record TextEnd (file : List ℕ) (i : ℕ) (text : List ℕ) (r : ℕ) : Typ
   pub to : r ≤ length file
   pub is : r ≢ i → part i r file ≡ text
 
--- the marker of the block whose code is that digit follows, where r is not i
+-- the marker of the block whose code is that digit stands at i, where r is not i
 pub record MarkerEnd (file : List ℕ) (i digit r : ℕ) : Type 0 where
   pub from : i ≤ r
   pub to : r ≤ length file
-  pub is : r ≢ i → Follow file i r (markerOf (digit - 48) ∷ [])
+  pub is : r ≢ i → Spelled file i r (markerOf (digit - 48) ∷ [])
 
--- a number with the value v follows
-pub record CountFollows (file : List ℕ) (i r v : ℕ) : Type 0 where
+-- a number with the value v stands at i, and spaces behind it up to r
+pub record CountStands (file : List ℕ) (i r v : ℕ) : Type 0 where
+  pub end : ℕ
   pub text : List ℕ
-  pub follow : Follow file i r (text ∷ [])
+  pub spelled : Spelled file i end (text ∷ [])
   pub is : readField number text ≡ value v
+  pub gap : Stretch isSpace file end r
+  pub some : end < r
 
--- such a number follows, where its end is not i
+-- such a number stands there, where something stands behind it
 pub record CountAt (file : List ℕ) (i : ℕ) (r : Count) : Type 0 where
-  pub from : i ≤ r .end
-  pub to : r .end ≤ length file
-  pub is : r .end ≢ i → CountFollows file i (r .end) (r .value)
+  pub from : i ≤ r .behind
+  pub to : r .behind ≤ length file
+  pub is : r .behind ≢ i → CountStands file i (r .behind) (r .value)
 
 -- ---- lines
+
+-- a code of that digit is the first field of the line at `at`, and the next one starts at i
+pub record Begun (file : List ℕ) (at i digit : ℕ) : Type 0 where
+  pub start : ℕ
+  pub front : Stretch isSpace file at start
+  pub code : Stands file start digit
+  pub gap : Stretch isSpace file (start + 1) i
+  pub some : start + 1 < i
 
 -- the marker of the block whose code is that digit stands at i, and behind it the line from `at` on ends; that header is told
 pub record HeaderEnded (file : List ℕ) (at i digit : ℕ) (header : Header) (r : Frame) : Type 0 where
   pub end : ℕ
-  pub marker : Follow file i end (markerOf (digit - 48) ∷ [])
+  pub marker : Spelled file i end (markerOf (digit - 48) ∷ [])
   pub line : LineEnded file at end (r .next)
   pub tells : r .answer ≡ Head header
 

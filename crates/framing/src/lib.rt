@@ -1,24 +1,22 @@
-// Headers and titles in their usual form: fields with one space between them, the line's end right behind the last, and a code of one
-// digit. They are read in one pass. A line in any other form is declined, and then read as every line can be: nothing is told of faults
-// here.
+// Headers and titles in their usual form: fields with spaces between them, the line's end right behind the last, and a code of one digit.
+// They are read in one pass. A line in any other form is declined, and then read as every line can be: nothing is told of faults here.
 use rules::line::Expected;
 use rules::line::Header;
 use rules::line::LineAnswer;
 use runs::fields::name_end;
 use runs::fields::number_end;
+use runs::fields::spaces_end;
 use runs::lines::line_end;
 use text::names::Name;
 use text::names::read_name;
 use text::numbers::Number;
 use text::numbers::read_number;
-use text::scan::SPACE;
 ghost use Prim.Native.Nat.{_≤_, _<_};
 ghost use mathlib.Core.Bool.{true, false};
 ghost use mathlib.Core.Path.{_≡_};
 ghost use lib.ListN.{length};
 ghost use Rattle.rules.specs.declared.line.Expected.the-variants.{AnyHeader};
-ghost use Rattle.runs.specs.Runs.{Stands};
-ghost use Rattle.framing.specs.Framing.{TextEnd, MarkerEnd, CountAt, HeaderEnded, titleBy, LineSaid};
+ghost use Rattle.framing.specs.Framing.{TextEnd, MarkerEnd, CountAt, Begun, HeaderEnded, titleBy, LineSaid};
 
 // What a header or a title says, and where the next line starts; or nothing, where `fits` is false.
 pub struct Frame {
@@ -27,9 +25,9 @@ pub struct Frame {
     pub next: usize,
 }
 
-// A number of a header, and where it ends.
+// A number of a header, and where the field behind it starts.
 struct Count {
-    end: usize,
+    behind: usize,
     value: u16,
 }
 
@@ -62,42 +60,48 @@ fn text_end(file: &[u8], i: usize, text: &[u8]) -> usize
     i + k
 }
 
-// Where the marker of the block with this code ends, a space in front of it: i where it does not stand there.
+// Where the marker of the block with this code ends that starts at i: i where it does not stand there.
 fn marker_end(file: &[u8], i: usize, code: u8) -> usize
     requires { ⌜ i ≤ length (now file) ⌝ }
     ensures { λ r. ⌜ MarkerEnd (now (file .entry)) i code r ⌝ }
 {
     match code {
-        b'0' => text_end(file, i, b" ***CODE"),
-        b'1' => text_end(file, i, b" ***END"),
-        b'3' => text_end(file, i, b" ***TITLE"),
-        b'4' => text_end(file, i, b" ***ENTRY"),
-        b'5' => text_end(file, i, b" ***EXT"),
-        b'6' => text_end(file, i, b" ***LSB"),
-        b'7' => text_end(file, i, b" ***LEB"),
+        b'0' => text_end(file, i, b"***CODE"),
+        b'1' => text_end(file, i, b"***END"),
+        b'3' => text_end(file, i, b"***TITLE"),
+        b'4' => text_end(file, i, b"***ENTRY"),
+        b'5' => text_end(file, i, b"***EXT"),
+        b'6' => text_end(file, i, b"***LSB"),
+        b'7' => text_end(file, i, b"***LEB"),
         _ => i,
     }
 }
 
-// The number behind a space at i: one that ends at i where there is none.
+// The number at i, with spaces behind it: one with no byte where there is none.
 fn count_at(file: &[u8], i: usize) -> Count
     requires { ⌜ i ≤ length (now file) ⌝ }
     ensures { λ r. ⌜ CountAt (now (file .entry)) i r ⌝ }
 {
-    if i == file.len() {
-        return Count { end: i, value: 0 };
+    let end = number_end(file, i);
+    if end == i {
+        return Count {
+            behind: i,
+            value: 0,
+        };
     }
-    if file[i] != SPACE {
-        return Count { end: i, value: 0 };
+    let behind = spaces_end(file, end);
+    if behind == end {
+        return Count {
+            behind: i,
+            value: 0,
+        };
     }
-    let start = i + 1;
-    let end = number_end(file, start);
-    if end == start {
-        return Count { end: i, value: 0 };
-    }
-    match read_number(&file[start..end]) {
-        Number::Value(value) => Count { end, value },
-        Number::NotANumber => Count { end: i, value: 0 },
+    match read_number(&file[i..end]) {
+        Number::Value(value) => Count { behind, value },
+        Number::NotANumber => Count {
+            behind: i,
+            value: 0,
+        },
     }
 }
 
@@ -121,40 +125,38 @@ fn ended(file: &[u8], at: usize, i: usize, code: u8, header: Header) -> Frame
     }
 }
 
-// A header with one number, of a block of entries or externals.
-fn counted(file: &[u8], at: usize, code: u8) -> Frame
-    requires { ⌜ Stands (now file) at code × ((52 ≤ code) × (code ≤ 53)) ⌝ }
+// A header with one number, which stands at i, of a block of entries or externals.
+fn counted(file: &[u8], at: usize, i: usize, code: u8) -> Frame
+    requires { ⌜ Begun (now file) at i code × ((52 ≤ code) × (code ≤ 53)) ⌝ }
     ensures { λ r. ⌜ (r .fits ≡ true → LineSaid AnyHeader at (now (file .entry)) (r .answer) (r .next)) ⌝ }
 {
-    let i = at + 1;
     let n = count_at(file, i);
-    if n.end == i {
+    if n.behind == i {
         return declined();
     }
     if code == b'4' {
-        return ended(file, at, n.end, code, Header::EntryBlock(n.value));
+        return ended(file, at, n.behind, code, Header::EntryBlock(n.value));
     }
-    ended(file, at, n.end, code, Header::ExternalBlock(n.value))
+    ended(file, at, n.behind, code, Header::ExternalBlock(n.value))
 }
 
-// A header with two numbers, of a block of code.
-fn code_header(file: &[u8], at: usize) -> Frame
-    requires { ⌜ Stands (now file) at 48 ⌝ }
+// A header with two numbers, from i on, of a block of code.
+fn code_header(file: &[u8], at: usize, i: usize) -> Frame
+    requires { ⌜ Begun (now file) at i 48 ⌝ }
     ensures { λ r. ⌜ (r .fits ≡ true → LineSaid AnyHeader at (now (file .entry)) (r .answer) (r .next)) ⌝ }
 {
-    let i = at + 1;
     let n = count_at(file, i);
-    if n.end == i {
+    if n.behind == i {
         return declined();
     }
-    let m = count_at(file, n.end);
-    if m.end == n.end {
+    let m = count_at(file, n.behind);
+    if m.behind == n.behind {
         return declined();
     }
     ended(
         file,
         at,
-        m.end,
+        m.behind,
         b'0',
         Header::CodeBlock {
             count: n.value,
@@ -168,15 +170,23 @@ fn header(file: &[u8], at: usize) -> Frame
     requires { ⌜ at < length (now file) ⌝ }
     ensures { λ r. ⌜ (r .fits ≡ true → LineSaid AnyHeader at (now (file .entry)) (r .answer) (r .next)) ⌝ }
 {
-    let code = file[at];
+    let start = spaces_end(file, at);
+    if start == file.len() {
+        return declined();
+    }
+    let code = file[start];
+    let i = spaces_end(file, start + 1);
+    if i == start + 1 {
+        return declined();
+    }
     match code {
-        b'0' => code_header(file, at),
-        b'1' => ended(file, at, at + 1, code, Header::EndBlock),
-        b'3' => ended(file, at, at + 1, code, Header::TitleBlock),
-        b'4' => counted(file, at, code),
-        b'5' => counted(file, at, code),
-        b'6' => ended(file, at, at + 1, code, Header::LibraryStart),
-        b'7' => ended(file, at, at + 1, code, Header::LibraryEnd),
+        b'0' => code_header(file, at, i),
+        b'1' => ended(file, at, i, code, Header::EndBlock),
+        b'3' => ended(file, at, i, code, Header::TitleBlock),
+        b'4' => counted(file, at, i, code),
+        b'5' => counted(file, at, i, code),
+        b'6' => ended(file, at, i, code, Header::LibraryStart),
+        b'7' => ended(file, at, i, code, Header::LibraryEnd),
         _ => declined(),
     }
 }
@@ -186,15 +196,16 @@ fn title(file: &[u8], at: usize, opens: bool) -> Frame
     requires { ⌜ at < length (now file) ⌝ }
     ensures { λ r. ⌜ (r .fits ≡ true → LineSaid (titleBy opens) at (now (file .entry)) (r .answer) (r .next)) ⌝ }
 {
-    let end = name_end(file, at);
-    if end == at {
+    let start = spaces_end(file, at);
+    let end = name_end(file, start);
+    if end == start {
         return declined();
     }
     let behind = line_end(file, at, end);
     if behind == 0 {
         return declined();
     }
-    match read_name(&file[at..end]) {
+    match read_name(&file[start..end]) {
         Name::Packed(name) => {
             if opens {
                 return Frame {

@@ -18,9 +18,9 @@ use Rattle.rules.proofs.TestLaws.{every-add, between-low, all-first, all-rest}
 use Rattle.text.specs.FieldBounds.{isSpace}
 use Rattle.text.specs.Scan.{part}
 use Rattle.text.proofs.ScanLaws.{length-part}
-use Rattle.runs.specs.Runs.{Stands, Stretch, FieldEnd, Spelled, Follow, NumberFollows, NextNumber, Numbers, LineEnded, IsRecord, LineRead, RecordsRead}
+use Rattle.runs.specs.Runs.{Stands, Stretch, FieldEnd, Spelled, ByteFollows, NumberFollows, NextNumber, Numbers, LineEnded, IsRecord, LineRead, RecordsRead}
 use Rattle.runs.proofs.AnswerLaws.{Says, plain-says, pair-says, linked-says, external-says, absolute-says, relocated-says}
-use Rattle.runs.proofs.SpelledLaws.{number-spelled, name-spelled, byte-spelled, gap-spelled, follow-on, numbers-start, numbers-more}
+use Rattle.runs.proofs.SpelledLaws.{number-spelled, name-spelled, byte-spelled, gap-spelled, that-byte, follow-on, numbers-start, numbers-more}
 use Rattle.runs.proofs.StretchLaws.{stretch-start}
 
 -- ---- the line's end
@@ -98,12 +98,12 @@ line-read {e} {at} {end} {r} {l} says s d =
 -- ---- each record, in the order of its fields
 
 module _ {at end r : ℕ} {l : List ℕ} (d : LineEnded l at end r) where
-  pub external-read : FieldEnd isName l at end → end ≢ at → LineRead ExternalRecord at l r
-  external-read n some = line-read (external-says (n .is some)) (name-spelled n some) d
+  pub external-read : {s : ℕ} → Stretch isSpace l at s → FieldEnd isName l s end → end ≢ s → LineRead ExternalRecord at l r
+  external-read gap n some = line-read (external-says (n .is some)) (gap-spelled gap (name-spelled n some)) d
 
-  pub pair-read : {m : ℕ} → FieldEnd isNumber l at m → m ≢ at → NumberFollows l m end → LineRead DataRecord at l r
-  pair-read {m} n some last =
-      line-read (pair-says (part at m l) (last .text) (n .is some) (last .is)) (last .follow .adds at _ (number-spelled n some)) d
+  pub pair-read : {s m : ℕ} → Stretch isSpace l at s → FieldEnd isNumber l s m → m ≢ s → NumberFollows l m end → LineRead DataRecord at l r
+  pair-read {s} {m} gap n some last =
+      line-read (pair-says (part s m l) (last .text) (n .is some) (last .is)) (last .follow .adds at _ (gap-spelled gap (number-spelled n some))) d
 
   pub word-read :
       {s m b c : ℕ} → Stretch isSpace l at s → FieldEnd isNumber l s m → m ≢ s → NextNumber l m b → b ≢ m → NextNumber l b c → c ≢ b
@@ -120,21 +120,23 @@ module _ {at end r : ℕ} {l : List ℕ} (d : LineEnded l at end r) where
   near-read n = word-read (stretch-start isSpace at l (omega (arith, n .from, n .to))) n
 
   pub linked-read :
-      {m k b : ℕ} → Stands l at 42 → Numbers l (at + 1) m 4 → Follow l m (m + 2) ((48 ∷ []) ∷ []) → Follow l (m + 2) k ((b ∷ []) ∷ [])
-      → 49 ≤ b → b ≤ 53 → NumberFollows l k end → LineRead CodeRecord at l r
-  linked-read {b = b} star ns zero kind low high last =
-      line-read (linked-says (ns .texts) b (last .text) (ns .size) (ns .are) low high (last .is))
-      (follow-on (ns .follow) (follow-on zero (follow-on kind (last .follow))) .adds at _ (byte-spelled at 42 l star refl)) d
+      {s m z k : ℕ} → Stretch isSpace l at s → Stands l s 42 → Numbers l (s + 1) m 4 → ByteFollows l m z 48 48 → ByteFollows l z k 49 53
+      → NumberFollows l k end → LineRead CodeRecord at l r
+  linked-read {s} gap star ns zero kind last =
+      line-read (linked-says (ns .texts) (kind .byte) (last .text) (ns .size) (ns .are) (kind .least) (kind .most) (last .is))
+      (follow-on (ns .follow) (follow-on (that-byte zero) (follow-on (kind .follow) (last .follow)))
+      .adds at _ (gap-spelled gap (byte-spelled s 42 l star refl))) d
 
-  module _ {m k : ℕ} (n : FieldEnd isName l at m) (some : m ≢ at) (v : NumberFollows l m k) where
-    pub absolute-read : Follow l k end ((48 ∷ []) ∷ []) → LineRead EntryRecord at l r
+  module _ {s m k : ℕ} (gap : Stretch isSpace l at s) (n : FieldEnd isName l s m) (some : m ≢ s) (v : NumberFollows l m k) where
+    pub absolute-read : ByteFollows l k end 48 48 → LineRead EntryRecord at l r
     absolute-read zero =
-        line-read (absolute-says (n .is some) (v .is)) (follow-on (v .follow) zero .adds at _ (name-spelled n some)) d
+        line-read (absolute-says (n .is some) (v .is))
+        (follow-on (v .follow) (that-byte zero) .adds at _ (gap-spelled gap (name-spelled n some))) d
 
-    pub relocated-read : {j : ℕ} → Follow l k j ((49 ∷ []) ∷ []) → NumberFollows l j end → LineRead EntryRecord at l r
+    pub relocated-read : {j : ℕ} → ByteFollows l k j 49 49 → NumberFollows l j end → LineRead EntryRecord at l r
     relocated-read one last =
         line-read (relocated-says (n .is some) (v .is) (last .is))
-        (follow-on (v .follow) (follow-on one (last .follow)) .adds at _ (name-spelled n some)) d
+        (follow-on (v .follow) (follow-on (that-byte one) (last .follow)) .adds at _ (gap-spelled gap (name-spelled n some))) d
 
 -- ---- lines in a row
 

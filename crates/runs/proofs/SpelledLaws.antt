@@ -17,7 +17,7 @@ use Rattle.text.specs.Scan.{part}
 use Rattle.text.specs.FieldBounds.{isSpace}
 use Rattle.text.proofs.FieldLaws.{field}
 use Rattle.text.proofs.ScanLaws.{part-cons, length-part, all-part}
-use Rattle.runs.specs.Runs.{Stands, Stretch, FieldEnd, textsFrom, Spelled, Follow, NextNumber, Numbers, NumbersEnd}
+use Rattle.runs.specs.Runs.{Stands, Stretch, FieldEnd, textsFrom, Spelled, Follow, ByteFollows, ByteEnd, NextNumber, Numbers, NumbersEnd}
 use Rattle.runs.proofs.StretchLaws.{part-split, part-one, all-joined, all-one, stretch-start, stretch-step}
 
 -- a byte that is legal and no space
@@ -192,18 +192,36 @@ module _ {i s r : ℕ} {l : List ℕ} {ts : List (List ℕ)} (gap : Stretch isSp
 pub one-space : {i : ℕ} {l : List ℕ} → Stands l i space → Stretch isSpace l i (i + 1)
 one-space {i} {l} h = stretch-step isSpace (stretch-start isSpace i l (omega (arith, h .inside))) (h .inside) (eq-eqb _ space (h .is))
 
-pub byte-follows :
-    (i b : ℕ) (l : List ℕ) {x : ℕ} → (x ≢ 0 → Stands l i space × Stands l (i + 1) x) → x ≡ b → isPlain b ≡ true
-    → Follow l i (i + 2) ((b ∷ []) ∷ [])
-byte-follows i b l {x} f e p =
-    let k : i + 1 + 1 ≡ i + 2 = omega arith in
-    let h = f (λ z. omega (arith, between-low 33 126 b p)) in
-    subst (λ (r : ℕ). Follow l i r ((b ∷ []) ∷ [])) k (spaced (one-space (h .0)) (byte-spelled (i + 1) b l (subst (Stands l (i + 1)) e (h .1)) p) (omega arith))
+-- a field of one byte behind spaces
+pub byte-found :
+    {i s low high : ℕ} {l : List ℕ} → Stretch isSpace l i s → s ≢ i → s ≢ length l → (33 ≤ low) × (high ≤ 126) → low ≤ getD l s 0
+    → getD l s 0 ≤ high → ByteEnd l i low high (s + 1)
+byte-found {i} {s} {low} {high} {l} gap some more h least most =
+    let inside : s < length l = omega (arith, gap .to) in
+    record {
+      from = omega (arith, gap .from);
+      to = omega arith;
+      is =
+          λ x.
+          record {
+            byte = getD l s 0;
+            least = least;
+            most = most;
+            follow =
+                spaced gap
+                (byte-spelled s (getD l s 0) l (record { inside = inside; is = refl }) (between-intro 33 126 (getD l s 0) (omega arith) (omega arith)))
+                (omega (arith, gap .from));
+          };
+    }
 
--- a word's type
-pub type-follows :
-    (i : ℕ) (l : List ℕ) {x : ℕ} → (x ≢ 0 → Stands l i space × Stands l (i + 1) x) → 49 ≤ x → x ≤ 53 → Follow l i (i + 2) ((x ∷ []) ∷ [])
-type-follows i l {x} f low high = byte-follows i x l f refl (between-intro 33 126 x (omega arith) (omega arith))
+pub no-byte : (i low high : ℕ) (l : List ℕ) → i ≤ length l → ByteEnd l i low high i
+no-byte i low high l h = record { from = omega arith; to = h; is = λ some. absurd (some refl) }
+
+-- where it can be one byte only
+pub that-byte : {i r c : ℕ} {l : List ℕ} → ByteFollows l i r c c → Follow l i r ((c ∷ []) ∷ [])
+that-byte {i} {r} {c} {l} b =
+    let is : b .byte ≡ c = omega (arith, b .least, b .most) in
+    subst (λ (x : ℕ). Follow l i r ((x ∷ []) ∷ [])) is (b .follow)
 
 pub follow-on : {i m r : ℕ} {l : List ℕ} {ts us : List (List ℕ)} → Follow l i m ts → Follow l m r us → Follow l i r (ts ++ us)
 follow-on {i} {m} {r} {l} {ts} {us} f g =

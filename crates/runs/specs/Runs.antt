@@ -53,6 +53,18 @@ pub record Follow (file : List ℕ) (i r : ℕ) (texts : List (List ℕ)) : Type
   pub to : r ≤ length file
   pub adds : (at : ℕ) (front : List (List ℕ)) → Spelled file at i front → Spelled file at r (front ++ texts)
 
+-- a field of one byte follows, which is none below low and none above high
+pub record ByteFollows (file : List ℕ) (i r low high : ℕ) : Type 0 where
+  pub byte : ℕ
+  pub least : low ≤ byte
+  pub most : byte ≤ high
+  pub follow : Follow file i r ((byte ∷ []) ∷ [])
+
+pub record ByteEnd (file : List ℕ) (i low high r : ℕ) : Type 0 where
+  pub from : i ≤ r
+  pub to : r ≤ length file
+  pub is : r ≢ i → ByteFollows file i r low high
+
 -- a number follows
 pub record NumberFollows (file : List ℕ) (i r : ℕ) : Type 0 where
   pub text : List ℕ

@@ -10,7 +10,7 @@ ghost use mathlib.Core.Path.{_≡_};
 ghost use lib.ListN.{length};
 ghost use Rattle.rules.specs.Text.{space, isOctal, isNumber, isName};
 ghost use Rattle.text.specs.FieldBounds.{isSpace};
-ghost use Rattle.runs.specs.Runs.{Stands, Stretch, FieldEnd, NextNumber, NumbersEnd};
+ghost use Rattle.runs.specs.Runs.{Stands, Stretch, FieldEnd, ByteEnd, NextNumber, NumbersEnd};
 
 // Does that byte stand at i?
 pub fn has_byte(file: &[u8], i: usize, byte: u8) -> bool
@@ -20,20 +20,6 @@ pub fn has_byte(file: &[u8], i: usize, byte: u8) -> bool
         return file[i] == byte;
     }
     false
-}
-
-// The byte behind a space at i: 0 where there is none.
-pub fn spaced_byte(file: &[u8], i: usize) -> u8
-    ensures { λ r. ⌜ (r ≢ 0 → Stands (now (file .entry)) i space × Stands (now (file .entry)) (i + 1) r) ⌝ }
-{
-    if !has_byte(file, i, SPACE) {
-        return 0;
-    }
-    let next = i + 1;
-    if next < file.len() {
-        return file[next];
-    }
-    0
 }
 
 // Is it a digit of a number?
@@ -108,6 +94,29 @@ pub fn spaces_end(file: &[u8], i: usize) -> usize
         end += 1;
     }
     end
+}
+
+// Where a field of one byte ends that stands behind spaces from i on and is none below `low` and none above `high`: i where there is none.
+pub fn byte_end(file: &[u8], i: usize, low: u8, high: u8) -> usize
+    requires { ⌜ i ≤ length (now file) ⌝ }
+    requires { ⌜ (33 ≤ low) × (high ≤ 126) ⌝ }
+    ensures { λ r. ⌜ ByteEnd (now (file .entry)) i low high r ⌝ }
+{
+    let start = spaces_end(file, i);
+    if start == i {
+        return i;
+    }
+    if start == file.len() {
+        return i;
+    }
+    let byte = file[start];
+    if byte < low {
+        return i;
+    }
+    if high < byte {
+        return i;
+    }
+    start + 1
 }
 
 // Where the number ends that stands behind one space at i, ahead of the file's end by as many bytes: i where there is none.

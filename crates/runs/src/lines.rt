@@ -1,4 +1,5 @@
 // One line in its usual form: where the next one starts, or 0, where the line is not in that form.
+use crate::fields::byte_end;
 use crate::fields::far_number;
 use crate::fields::has_byte;
 use crate::fields::name_end;
@@ -7,7 +8,6 @@ use crate::fields::next_number;
 use crate::fields::number_at;
 use crate::fields::number_end;
 use crate::fields::numbers_end;
-use crate::fields::spaced_byte;
 use crate::fields::spaces_end;
 use rules::limits::LONGEST_LINE;
 use text::scan::CR;
@@ -16,7 +16,8 @@ ghost use Prim.Native.Nat.{_+_, _≤_};
 ghost use mathlib.Core.Logic.{_≢_};
 ghost use lib.ListN.{length};
 ghost use Rattle.rules.specs.declared.line.Expected.the-variants.{CodeRecord, EntryRecord, ExternalRecord, DataRecord};
-ghost use Rattle.runs.specs.Runs.{LineEnded, LineRead};
+ghost use Rattle.text.specs.FieldBounds.{isSpace};
+ghost use Rattle.runs.specs.Runs.{Stretch, LineEnded, LineRead};
 
 // Bytes of four numbers with a space between them, where they are longest.
 const NEAR_WORD: usize = 27;
@@ -41,33 +42,29 @@ pub fn line_end(file: &[u8], at: usize, end: usize) -> usize
     0
 }
 
-// A word with a type: an asterisk, the quarters, 0, the type, and what it refers to.
-fn linked_word(file: &[u8], at: usize) -> usize
-    requires { ⌜ at ≤ length (now file) ⌝ }
+// A word with a type, from `start` on: an asterisk, the quarters, 0, the type, and what it refers to.
+fn linked_word(file: &[u8], at: usize, start: usize) -> usize
+    requires { ⌜ Stretch isSpace (now file) at start ⌝ }
     ensures { λ r. ⌜ (r ≢ 0 → LineRead CodeRecord at (now (file .entry)) r) ⌝ }
 {
-    if !has_byte(file, at, b'*') {
+    if !has_byte(file, start, b'*') {
         return 0;
     }
-    let start = at + 1;
-    let end = numbers_end(file, start, 4);
-    if end == start {
+    let first = start + 1;
+    let end = numbers_end(file, first, 4);
+    if end == first {
         return 0;
     }
-    if spaced_byte(file, end) != b'0' {
+    let zeroed = byte_end(file, end, b'0', b'0');
+    if zeroed == end {
         return 0;
     }
-    let zeroed = end + 2;
-    let kind = spaced_byte(file, zeroed);
-    if kind < b'1' {
+    let typed = byte_end(file, zeroed, b'1', b'5');
+    if typed == zeroed {
         return 0;
     }
-    if b'5' < kind {
-        return 0;
-    }
-    let last = zeroed + 2;
-    let stop = next_number(file, last);
-    if stop == last {
+    let stop = next_number(file, typed);
+    if stop == typed {
         return 0;
     }
     line_end(file, at, stop)
@@ -105,7 +102,7 @@ fn far_word(file: &[u8], at: usize) -> usize
     let start = spaces_end(file, at);
     let first = number_end(file, start);
     if first == start {
-        return linked_word(file, at);
+        return linked_word(file, at, start);
     }
     let second = far_number(file, first);
     if second == first {
@@ -141,8 +138,9 @@ pub fn external(file: &[u8], at: usize) -> usize
     requires { ⌜ at ≤ length (now file) ⌝ }
     ensures { λ r. ⌜ (r ≢ 0 → LineRead ExternalRecord at (now (file .entry)) r) ⌝ }
 {
-    let end = name_end(file, at);
-    if end == at {
+    let start = spaces_end(file, at);
+    let end = name_end(file, start);
+    if end == start {
         return 0;
     }
     line_end(file, at, end)
@@ -153,24 +151,25 @@ pub fn entry(file: &[u8], at: usize) -> usize
     requires { ⌜ at ≤ length (now file) ⌝ }
     ensures { λ r. ⌜ (r ≢ 0 → LineRead EntryRecord at (now (file .entry)) r) ⌝ }
 {
-    let named = name_end(file, at);
-    if named == at {
+    let start = spaces_end(file, at);
+    let named = name_end(file, start);
+    if named == start {
         return 0;
     }
     let end = next_number(file, named);
     if end == named {
         return 0;
     }
-    let kind = spaced_byte(file, end);
-    let last = end + 2;
-    if kind == b'0' {
-        return line_end(file, at, last);
+    let absolute = byte_end(file, end, b'0', b'0');
+    if absolute != end {
+        return line_end(file, at, absolute);
     }
-    if kind != b'1' {
+    let relocated = byte_end(file, end, b'1', b'1');
+    if relocated == end {
         return 0;
     }
-    let stop = next_number(file, last);
-    if stop == last {
+    let stop = next_number(file, relocated);
+    if stop == relocated {
         return 0;
     }
     line_end(file, at, stop)
@@ -181,8 +180,9 @@ pub fn pair(file: &[u8], at: usize) -> usize
     requires { ⌜ at ≤ length (now file) ⌝ }
     ensures { λ r. ⌜ (r ≢ 0 → LineRead DataRecord at (now (file .entry)) r) ⌝ }
 {
-    let first = number_end(file, at);
-    if first == at {
+    let start = spaces_end(file, at);
+    let first = number_end(file, start);
+    if first == start {
         return 0;
     }
     let end = next_number(file, first);

@@ -1,13 +1,10 @@
 -- `framing::code_header` meets its contract: the code, two numbers, and the marker; what is declined promises nothing.
 -- Assumes nothing.
 use mathlib.Core.Path.{refl}
-use borrow.Author.Needs.{needs}
 use Rattle.framing.proofs.FramingLaws.{nothing, code-said}
+use borrow.Author.Needs.{needs}
 use Rattle.framing.proofs.code_header.Statement.{statement}
 use Rattle.framing.proofs.code_header.Tie as tie
-
-add-i : tie.Need-add-i
-add-i c = search needs
 
 count-at-requires : tie.Need-count-at-requires
 count-at-requires c κs = search needs
@@ -31,13 +28,13 @@ ended-requires : tie.Need-ended-requires
 ended-requires c κs = search needs
 
 returns-3 : tie.Need-returns-3
-returns-3 c = λ fits. code-said (c .before .before .before .before .before .before .before .before .before .pre) (c .before .before .before .before .before .before .before .count-at .ensures .is (c .before .before .before .before .before .if1 .left)) (c .before .before .before .before .count-at2 .ensures .is (c .before .if2 .left)) refl (c .ended .ensures fits)
+returns-3 c = λ fits.
+    code-said (c .before .before .before .before .before .before .before .before .before .pre) (c .before .before .before .before .before .before .before .count-at .ensures .is (c .before .before .before .before .before .if1 .left)) (c .before .before .before .before .count-at2 .ensures .is (c .before .if2 .left)) refl (c .ended .ensures fits)
 
 pub code-header-spec : {M : Type 1} → statement M
 code-header-spec =
     tie.close
     (tie.spec
-    add-i
     count-at-requires
     declined-requires
     returns

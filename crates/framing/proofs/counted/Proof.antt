@@ -1,12 +1,9 @@
 -- `framing::counted` meets its contract: the code, a number, and the marker; what is declined promises nothing.
 -- Assumes nothing.
-use borrow.Author.Needs.{needs}
 use Rattle.framing.proofs.FramingLaws.{nothing, entries-said, externals-said}
+use borrow.Author.Needs.{needs}
 use Rattle.framing.proofs.counted.Statement.{statement}
 use Rattle.framing.proofs.counted.Tie as tie
-
-add-i : tie.Need-add-i
-add-i c = search needs
 
 count-at-requires : tie.Need-count-at-requires
 count-at-requires c κs = search needs
@@ -33,7 +30,6 @@ pub counted-spec : {M : Type 1} → statement M
 counted-spec =
     tie.close
     (tie.spec
-    add-i
     count-at-requires
     declined-requires
     returns

@@ -53,31 +53,31 @@ text-end-requires-7 c κs = search needs
 
 returns : tie.Need-returns
 unfolding bytes all headers rowIn rowOf markerIn
-returns c = rw (c .before .before .match .keys1) (marker-found (c .text-end .ensures) refl (omega arith) refl)
+returns c = rw (c .before .before .match .keys1) (marker-found (c .text-end .ensures) refl refl)
 
 returns-2 : tie.Need-returns-2
 unfolding bytes all headers rowIn rowOf markerIn
-returns-2 c = rw (c .before .before .match .keys2) (marker-found (c .text-end2 .ensures) refl (omega arith) refl)
+returns-2 c = rw (c .before .before .match .keys2) (marker-found (c .text-end2 .ensures) refl refl)
 
 returns-3 : tie.Need-returns-3
 unfolding bytes all headers rowIn rowOf markerIn
-returns-3 c = rw (c .before .before .match .keys3) (marker-found (c .text-end3 .ensures) refl (omega arith) refl)
+returns-3 c = rw (c .before .before .match .keys3) (marker-found (c .text-end3 .ensures) refl refl)
 
 returns-4 : tie.Need-returns-4
 unfolding bytes all headers rowIn rowOf markerIn
-returns-4 c = rw (c .before .before .match .keys4) (marker-found (c .text-end4 .ensures) refl (omega arith) refl)
+returns-4 c = rw (c .before .before .match .keys4) (marker-found (c .text-end4 .ensures) refl refl)
 
 returns-5 : tie.Need-returns-5
 unfolding bytes all headers rowIn rowOf markerIn
-returns-5 c = rw (c .before .before .match .keys5) (marker-found (c .text-end5 .ensures) refl (omega arith) refl)
+returns-5 c = rw (c .before .before .match .keys5) (marker-found (c .text-end5 .ensures) refl refl)
 
 returns-6 : tie.Need-returns-6
 unfolding bytes all headers rowIn rowOf markerIn
-returns-6 c = rw (c .before .before .match .keys6) (marker-found (c .text-end6 .ensures) refl (omega arith) refl)
+returns-6 c = rw (c .before .before .match .keys6) (marker-found (c .text-end6 .ensures) refl refl)
 
 returns-7 : tie.Need-returns-7
 unfolding bytes all headers rowIn rowOf markerIn
-returns-7 c = rw (c .before .before .match .keys7) (marker-found (c .text-end7 .ensures) refl (omega arith) refl)
+returns-7 c = rw (c .before .before .match .keys7) (marker-found (c .text-end7 .ensures) refl refl)
 
 returns-8 : tie.Need-returns-8
 returns-8 c = no-marker _ _ _ (c .before .before .pre)

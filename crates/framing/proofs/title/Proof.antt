@@ -1,10 +1,13 @@
 -- `framing::title` meets its contract: a name and the line's end behind it; what is declined promises nothing.
 -- Assumes nothing.
-use borrow.Author.Needs.{needs}
 use Rattle.text.specs.Scan.{part}
 use Rattle.framing.proofs.FramingLaws.{nothing, name-read, opening-said, closing-said}
+use borrow.Author.Needs.{needs}
 use Rattle.framing.proofs.title.Statement.{statement}
 use Rattle.framing.proofs.title.Tie as tie
+
+spaces-end-requires : tie.Need-spaces-end-requires
+spaces-end-requires c κs = search needs
 
 name-end-requires : tie.Need-name-end-requires
 name-end-requires c κs = search needs
@@ -42,7 +45,7 @@ enum-known-name c = search needs
 returns-3 : tie.Need-returns-3
 unfolding part
 returns-3 c = λ fits. rw (c .if3 .taken)
-    (opening-said (c .before .before .before .before .before .before .before .before .before .name-end .ensures) (c .before .before .before .before .before .before .before .before .if1 .left) (c .before .before .before .before .before .before .before .line-end .ensures (c .before .before .before .before .before .before .if2 .left)) (name-read _ (c .before .before .before .before .read-name .ensures) (c .before .before .name .given .1)))
+    (opening-said (c .before .before .before .before .before .before .before .before .before .before .spaces-end .ensures) (c .before .before .before .before .before .before .before .before .before .name-end .ensures) (c .before .before .before .before .before .before .before .before .if1 .left) (c .before .before .before .before .before .before .before .line-end .ensures (c .before .before .before .before .before .before .if2 .left)) (name-read _ (c .before .before .before .before .read-name .ensures) (c .before .before .name .given .1)))
 
 enum-told : tie.Need-enum-told
 enum-told c = search needs
@@ -53,7 +56,7 @@ declined-requires-3 c κs = search needs
 returns-4 : tie.Need-returns-4
 unfolding part
 returns-4 c = λ fits. rw (c .if3 .left)
-    (closing-said (c .before .before .before .before .before .before .before .before .before .name-end .ensures) (c .before .before .before .before .before .before .before .before .if1 .left) (c .before .before .before .before .before .before .before .line-end .ensures (c .before .before .before .before .before .before .if2 .left)) (name-read _ (c .before .before .before .before .read-name .ensures) (c .before .before .name .given .1)))
+    (closing-said (c .before .before .before .before .before .before .before .before .before .before .spaces-end .ensures) (c .before .before .before .before .before .before .before .before .before .name-end .ensures) (c .before .before .before .before .before .before .before .before .if1 .left) (c .before .before .before .before .before .before .before .line-end .ensures (c .before .before .before .before .before .before .if2 .left)) (name-read _ (c .before .before .before .before .read-name .ensures) (c .before .before .name .given .1)))
 
 returns-5 : tie.Need-returns-5
 returns-5 c = nothing (c .declined3 .ensures)
@@ -62,6 +65,7 @@ pub title-spec : {M : Type 1} → statement M
 title-spec =
     tie.close
     (tie.spec
+    spaces-end-requires
     name-end-requires
     declined-requires
     returns

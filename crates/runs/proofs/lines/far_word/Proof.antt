@@ -14,7 +14,7 @@ number-end-requires : tie.Need-number-end-requires
 number-end-requires c κs = c .spaces-end .ensures .to
 
 linked-word-requires : tie.Need-linked-word-requires
-linked-word-requires c κs = c .before .before .before .before .pre
+linked-word-requires c κs = c .before .before .spaces-end .ensures
 
 returns : tie.Need-returns
 returns c = search needs
