@@ -29,8 +29,9 @@ enum Limit {
 
 const LOADS: Limit = Limit::Loads(40.0);
 
-const ROWS: [Row; 11] = [
+const ROWS: [Row; 12] = [
     Row { label: "a full file of modules", input: || inputs::modules(1), piece: 512, limit: LOADS },
+    Row { label: "modules in columns", input: inputs::modules_in_columns, piece: 512, limit: LOADS },
     Row { label: "one block of words", input: inputs::plain_words, piece: 512, limit: LOADS },
     Row { label: "words in columns, CR LF", input: inputs::words_in_columns, piece: 512, limit: LOADS },
     Row { label: "a section of entries", input: || inputs::entries_empty_table(1), piece: 512, limit: LOADS },

@@ -315,6 +315,21 @@ pub fn words_in_columns() -> Input {
     })
 }
 
+/// A full file of modules with their fields in columns and names at the margin, as the object module of source 000, Figure 4-2, is printed.
+pub fn modules_in_columns() -> Input {
+    let mut file = String::new();
+    for line in modules_file(LONGEST_FILE).lines() {
+        let fields: Vec<&str> = line.split_whitespace().collect();
+        let margin =
+            if fields.first().is_some_and(|first| first.starts_with(char::is_alphabetic)) { "" } else { "      " };
+        file += &format!("{margin}{}\n", fields.join("      "));
+    }
+    // whole modules alone
+    let end = file[..LONGEST_FILE].rfind("      3      ***TITLE").expect("a module");
+    let file = padded(file[..end].to_string(), LONGEST_FILE);
+    Input { size: format!("{} bytes", file.len()), state: fresh(), job: Job::Load(file.into()), expected: 0 }
+}
+
 /// Modules with nothing in them.
 pub fn headers_alone() -> Input {
     let module = "3 ***TITLE\nA\n1 ***END\nA\n";
