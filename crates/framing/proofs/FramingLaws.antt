@@ -29,7 +29,7 @@ use Rattle.text.specs.declared.names.Name.the-variants.{Packed}
 use Rattle.text.proofs.ScanLaws.{part-nil, part-cons, length-part, drop-part, part-all}
 use Rattle.runs.specs.Runs.{Stands, Stretch, FieldEnd, textsFrom, Spelled, Follow, LineEnded}
 use Rattle.runs.proofs.StretchLaws.{part-split, part-one}
-use Rattle.runs.proofs.SpelledLaws.{plain-spelled, spaced, gap-spelled, byte-spelled, number-spelled, name-spelled, follow-on}
+use Rattle.runs.proofs.SpelledLaws.{trailed, plain-spelled, spaced, gap-spelled, byte-spelled, number-spelled, name-spelled, follow-on}
 use Rattle.runs.proofs.AnswerLaws.{texts, digit-is, legal-front, first-text}
 use Rattle.runs.proofs.LineReadLaws.{line-stands}
 use Rattle.framing.specs.Framing.{TextEnd, MarkerEnd, CountStands, CountAt, Begun, HeaderEnded, LineSaid}
@@ -158,12 +158,13 @@ module _ (e : Expected) (s : Shape) (vs : List ℕ) where
       → ((fs : List Field) → texts fs ≡ ts → shapeFor e fs ≡ some s) → Spelled l at end ts → LineEnded l at end r
       → LineSaid e at l (s .says vs) r
   line-said {at} {end} {r} {l} {ts} n h q t d =
+      let whole = trailed t (d .gap) in
       record {
-        line = part at end l;
-        lines = line-stands t d;
-        says = line-says ts n h q (part at end l) (t .fields 1) (t .legal) (d .short);
-        moves = omega (arith, t .from, d .behind);
-        ends = d .inside;
+        line = part at (d .stop) l;
+        lines = line-stands whole (d .stops);
+        says = line-says ts n h q (part at (d .stop) l) (whole .fields 1) (whole .legal) (d .stops .short);
+        moves = omega (arith, whole .from, d .stops .behind);
+        ends = d .stops .inside;
       }
 
 -- ---- titles

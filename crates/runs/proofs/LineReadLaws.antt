@@ -18,9 +18,9 @@ use Rattle.rules.proofs.TestLaws.{every-add, between-low, all-first, all-rest}
 use Rattle.text.specs.FieldBounds.{isSpace}
 use Rattle.text.specs.Scan.{part}
 use Rattle.text.proofs.ScanLaws.{length-part}
-use Rattle.runs.specs.Runs.{Stands, Stretch, FieldEnd, Spelled, ByteFollows, NumberFollows, NextNumber, Numbers, LineEnded, IsRecord, LineRead, RecordsRead}
+use Rattle.runs.specs.Runs.{Stands, Stretch, FieldEnd, Spelled, ByteFollows, NumberFollows, NextNumber, Numbers, LineStops, LineEnded, IsRecord, LineRead, RecordsRead}
 use Rattle.runs.proofs.AnswerLaws.{Says, plain-says, pair-says, linked-says, external-says, absolute-says, relocated-says}
-use Rattle.runs.proofs.SpelledLaws.{number-spelled, name-spelled, byte-spelled, gap-spelled, that-byte, follow-on, numbers-start, numbers-more}
+use Rattle.runs.proofs.SpelledLaws.{trailed, number-spelled, name-spelled, byte-spelled, gap-spelled, that-byte, follow-on, numbers-start, numbers-more}
 use Rattle.runs.proofs.StretchLaws.{stretch-start}
 
 -- ---- the line's end
@@ -33,8 +33,8 @@ unfolding addToLines
 ends-LF i l s = ap linesOf (drop-at i LF l s) ∙ lines-cons LF (drop (i + 1) l)
 
 module _ {at end : ℕ} {l : List ℕ} (h : (at ≤ end) × (end ≤ length l)) (short : end - at ≤ 80) where
-  pub ended-LF : Stands l end LF → LineEnded l at end (end + 1)
-  ended-LF s =
+  pub stops-LF : Stands l end LF → LineStops l at end (end + 1)
+  stops-LF s =
       record {
         short = omega (arith, length-part at end l (h .1));
         behind = omega arith;
@@ -42,9 +42,9 @@ module _ {at end : ℕ} {l : List ℕ} (h : (at ≤ end) × (end ≤ length l)) 
         lines = ends-LF end l s;
       }
 
-  pub ended-CRLF : Stands l end CR → Stands l (end + 1) LF → LineEnded l at end (end + 2)
+  pub stops-CRLF : Stands l end CR → Stands l (end + 1) LF → LineStops l at end (end + 2)
   unfolding addToLines startsLF
-  ended-CRLF s t =
+  stops-CRLF s t =
       let k : end + 1 + 1 ≡ end + 2 = omega arith in
       record {
         short = omega (arith, length-part at end l (h .1));
@@ -77,22 +77,23 @@ split-off at end l h =
     sym (take-append-drop (end - at) (drop at l))
     ∙ ap (_++_ (take (end - at) (drop at l))) (drop-drop (end - at) at l ∙ ap (λ (n : ℕ). drop n l) k)
 
--- what is spelled in front of a line's end is the line
+-- what is spelled in front of where a line stops is the line
 pub line-stands :
-    {at end r : ℕ} {l : List ℕ} {ts : List (List ℕ)} → Spelled l at end ts → LineEnded l at end r
-    → linesOf (drop at l) ≡ part at end l ∷ linesOf (drop r l)
-line-stands {at} {end} {r} {l} s d =
-    ap linesOf (split-off at end l (s .from)) ∙ line-front (part at end l) (drop end l) (s .legal) (d .lines)
+    {at stop r : ℕ} {l : List ℕ} {ts : List (List ℕ)} → Spelled l at stop ts → LineStops l at stop r
+    → linesOf (drop at l) ≡ part at stop l ∷ linesOf (drop r l)
+line-stands {at} {stop} {r} {l} s d =
+    ap linesOf (split-off at stop l (s .from)) ∙ line-front (part at stop l) (drop stop l) (s .legal) (d .lines)
 
 line-read :
     {e : Expected} {at end r : ℕ} {l : List ℕ} {ts : List (List ℕ)} → Says e ts → Spelled l at end ts → LineEnded l at end r → LineRead e at l r
 line-read {e} {at} {end} {r} {l} says s d =
+    let whole = trailed s (d .gap) in
     record {
-      line = part at end l;
-      lines = line-stands s d;
-      says = says (part at end l) (s .fields 1) (s .legal) (d .short);
-      moves = omega (arith, s .from, d .behind);
-      ends = d .inside;
+      line = part at (d .stop) l;
+      lines = line-stands whole (d .stops);
+      says = says (part at (d .stop) l) (whole .fields 1) (whole .legal) (d .stops .short);
+      moves = omega (arith, whole .from, d .stops .behind);
+      ends = d .stops .inside;
     }
 
 -- ---- each record, in the order of its fields

@@ -189,7 +189,31 @@ module _ {i s r : ℕ} {l : List ℕ} {ts : List (List ℕ)} (gap : Stretch isSp
               };
         }
 
-pub one-space : {i : ℕ} {l : List ℕ} → Stands l i space → Stretch isSpace l i (i + 1)
+-- ---- spaces behind fields
+
+-- spaces alone are no field
+texts-spaces : (c : ℕ) (gap : List ℕ) → all isSpace gap ≡ true → textsFrom c gap ≡ []
+unfolding textsFrom fieldsFrom
+texts-spaces c gap h = ap (textsFrom c) (sym (append-nil gap)) ∙ texts-gap c gap [] h
+
+texts-trailed : (c : ℕ) (t gap : List ℕ) → all isSpace gap ≡ true → textsFrom c (t ++ gap) ≡ textsFrom c t
+texts-trailed c t [] h = ap (textsFrom c) (append-nil t)
+texts-trailed c t (b ∷ gap) h =
+    ap (λ (x : ℕ). textsFrom c (t ++ x ∷ gap)) (eqb-true b space (all-first isSpace b gap h))
+    ∙ texts-parted c t gap
+    ∙ ap (_++_ (textsFrom c t)) (ap (λ (x : ℕ). textsFrom (c + length t) (x ∷ gap)) (sym (eqb-true b space (all-first isSpace b gap h))) ∙ texts-spaces (c + length t) (b ∷ gap) h)
+    ∙ append-nil (textsFrom c t)
+
+pub trailed : {at e s : ℕ} {l : List ℕ} {ts : List (List ℕ)} → Spelled l at e ts → Stretch isSpace l e s → Spelled l at s ts
+trailed {at} {e} {s} {l} f gap =
+    record {
+      from = omega (arith, f .from, gap .from);
+      to = gap .to;
+      fields = λ c. ap (textsFrom c) (part-split at e s l (f .from) (gap .from)) ∙ texts-trailed c (part at e l) (part e s l) (gap .are) ∙ f .fields c;
+      legal = all-joined isLegal at e s l (f .from) (gap .from) (f .legal) (all-weaken isSpace isLegal space-legal (part e s l) (gap .are));
+    }
+
+one-space : {i : ℕ} {l : List ℕ} → Stands l i space → Stretch isSpace l i (i + 1)
 one-space {i} {l} h = stretch-step isSpace (stretch-start isSpace i l (omega (arith, h .inside))) (h .inside) (eq-eqb _ space (h .is))
 
 -- a field of one byte behind spaces

@@ -14,6 +14,7 @@ use Rattle.rules.specs.declared.line.Expected.the-variants.{CodeRecord, EntryRe
 use Rattle.rules.specs.declared.line.LineAnswer.{LineAnswer}
 use Rattle.rules.specs.declared.line.LineAnswer.the-variants.{Bad, Blank, Head, Opening, Closing, Code, Entered, Mentioned, Ignored, Parameter, Sub}
 use Rattle.rules.proofs.TestLaws.{Every}
+use Rattle.text.specs.FieldBounds.{isSpace}
 use Rattle.text.specs.Scan.{part}
 use Rattle.runs.specs.declared.Run.{Run}
 
@@ -90,12 +91,18 @@ pub record NumbersEnd (file : List ℕ) (i r count : ℕ) : Type 0 where
 
 -- ---- the line's end
 
--- what stands at `end` ends a line that is not too long, and the next one starts at r
-pub record LineEnded (file : List ℕ) (at end r : ℕ) : Type 0 where
-  pub short : length (part at end file) ≤ longestLine
-  pub behind : end < r
+-- what stands at `stop` ends a line that is not too long, and the next one starts at r
+pub record LineStops (file : List ℕ) (at stop r : ℕ) : Type 0 where
+  pub short : length (part at stop file) ≤ longestLine
+  pub behind : stop < r
   pub inside : r ≤ length file
-  pub lines : linesOf (drop end file) ≡ [] ∷ linesOf (drop r file)
+  pub lines : linesOf (drop stop file) ≡ [] ∷ linesOf (drop r file)
+
+-- the same behind spaces from `end` on
+pub record LineEnded (file : List ℕ) (at end r : ℕ) : Type 0 where
+  pub stop : ℕ
+  pub gap : Stretch isSpace file end stop
+  pub stops : LineStops file at stop r
 
 -- ---- the records of a block
 

@@ -17,29 +17,37 @@ ghost use mathlib.Core.Logic.{_≢_};
 ghost use lib.ListN.{length};
 ghost use Rattle.rules.specs.declared.line.Expected.the-variants.{CodeRecord, EntryRecord, ExternalRecord, DataRecord};
 ghost use Rattle.text.specs.FieldBounds.{isSpace};
-ghost use Rattle.runs.specs.Runs.{Stretch, LineEnded, LineRead};
+ghost use Rattle.runs.specs.Runs.{Stretch, LineStops, LineEnded, LineRead};
 
 // Bytes of four numbers with a space between them, where they are longest.
 const NEAR_WORD: usize = 27;
 
-// The line from `at` on ends at `end`: where the next one starts.
+// The line from `at` on stops at `stop`: where the next one starts.
+fn line_stop(file: &[u8], at: usize, stop: usize) -> usize
+    requires { ⌜ (at ≤ stop) × (stop ≤ length (now file)) ⌝ }
+    ensures { λ r. ⌜ (r ≢ 0 → LineStops (now (file .entry)) at stop r) ⌝ }
+{
+    if LONGEST_LINE < stop - at {
+        return 0;
+    }
+    if has_byte(file, stop, LF) {
+        return stop + 1;
+    }
+    if !has_byte(file, stop, CR) {
+        return 0;
+    }
+    if has_byte(file, stop + 1, LF) {
+        return stop + 2;
+    }
+    0
+}
+
+// The last field of the line from `at` on ends at `end`: where the next line starts. There may be spaces behind it, as on a card.
 pub fn line_end(file: &[u8], at: usize, end: usize) -> usize
     requires { ⌜ (at ≤ end) × (end ≤ length (now file)) ⌝ }
     ensures { λ r. ⌜ (r ≢ 0 → LineEnded (now (file .entry)) at end r) ⌝ }
 {
-    if LONGEST_LINE < end - at {
-        return 0;
-    }
-    if has_byte(file, end, LF) {
-        return end + 1;
-    }
-    if !has_byte(file, end, CR) {
-        return 0;
-    }
-    if has_byte(file, end + 1, LF) {
-        return end + 2;
-    }
-    0
+    line_stop(file, at, spaces_end(file, end))
 }
 
 // A word with a type, from `start` on: an asterisk, the quarters, 0, the type, and what it refers to.

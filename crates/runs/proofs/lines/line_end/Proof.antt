@@ -1,61 +1,18 @@
--- `runs::lines::line_end` meets its contract: an LF, or a CR and an LF; 0 promises nothing.
+-- `runs::lines::line_end` meets its contract: the line stops behind the spaces; 0 promises nothing.
 -- Assumes nothing.
-use mathlib.Core.Path.{refl}
-use borrow.Author.Tests.{not-false}
+use native.Mathlib.Omega.{arith}
 use borrow.Author.Needs.{needs}
-use Rattle.runs.proofs.LineReadLaws.{ended-LF, ended-CRLF}
 use Rattle.runs.proofs.lines.line_end.Statement.{statement}
 use Rattle.runs.proofs.lines.line_end.Tie as tie
 
-sub-if1 : tie.Need-sub-if1
-sub-if1 c = search needs
+spaces-end-requires : tie.Need-spaces-end-requires
+spaces-end-requires c κs = search needs
+
+line-stop-requires : tie.Need-line-stop-requires
+line-stop-requires c κs = (omega (arith, c .before .before .pre .0, c .spaces-end .ensures .from), c .spaces-end .ensures .to)
 
 returns : tie.Need-returns
-returns c = λ some. absurd (some refl)
-
-has-byte-requires : tie.Need-has-byte-requires
-has-byte-requires c κs = search needs
-
-add-result : tie.Need-add-result
-add-result c = search needs
-
-returns-2 : tie.Need-returns-2
-returns-2 c = λ some. ended-LF (c .before .before .before .before .pre) (c .before .before .if1 .left) (c .before .has-byte .ensures (c .if2 .taken))
-
-has-byte-requires-2 : tie.Need-has-byte-requires-2
-has-byte-requires-2 c κs = search needs
-
-returns-3 : tie.Need-returns-3
-returns-3 c = λ some. absurd (some refl)
-
-add-has-byte : tie.Need-add-has-byte
-add-has-byte c = search needs
-
-has-byte-requires-3 : tie.Need-has-byte-requires-3
-has-byte-requires-3 c κs = search needs
-
-add-result-2 : tie.Need-add-result-2
-add-result-2 c = search needs
-
-returns-4 : tie.Need-returns-4
-returns-4 c = λ some. ended-CRLF (c .before .before .before .before .before .before .before .before .pre) (c .before .before .before .before .before .before .if1 .left) (c .before .before .before .has-byte2 .ensures (not-false _ (c .before .before .if3 .left))) (c .before .has-byte3 .ensures (c .if4 .taken))
-
-returns-5 : tie.Need-returns-5
-returns-5 c = λ some. absurd (some refl)
+returns c = λ some. record { stop = _; gap = c .before .spaces-end .ensures; stops = c .line-stop .ensures some }
 
 pub line-end-spec : {M : Type 1} → statement M
-line-end-spec =
-    tie.close
-    (tie.spec
-    sub-if1
-    returns
-    has-byte-requires
-    add-result
-    returns-2
-    has-byte-requires-2
-    returns-3
-    add-has-byte
-    has-byte-requires-3
-    add-result-2
-    returns-4
-    returns-5)
+line-end-spec = tie.close (tie.spec spaces-end-requires line-stop-requires returns)
