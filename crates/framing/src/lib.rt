@@ -1,5 +1,5 @@
-// Headers and titles in their usual form: fields with spaces between them, the line's end right behind the last, and a code of one digit.
-// They are read in one pass. A line in any other form is declined, and then read as every line can be: nothing is told of faults here.
+// Headers and titles in their usual form: the right fields, with spaces between and around them, and a code of one digit. They are read in
+// one pass. A line in any other form is declined, and then read as every line can be: nothing is told of faults here.
 use rules::line::Expected;
 use rules::line::Header;
 use rules::line::LineAnswer;

@@ -142,6 +142,7 @@ pub fn word(file: &[u8], at: usize) -> usize
     far_word(file, at)
 }
 
+// An external: its name.
 pub fn external(file: &[u8], at: usize) -> usize
     requires { ⌜ at ≤ length (now file) ⌝ }
     ensures { λ r. ⌜ (r ≢ 0 → LineRead ExternalRecord at (now (file .entry)) r) ⌝ }
