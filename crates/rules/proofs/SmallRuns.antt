@@ -17,7 +17,7 @@ use Rattle.rules.specs.Lookup as Lookup
 use Rattle.rules.specs.Calls as Calls
 use Rattle.rules.specs.History as History
 use Rattle.rules.specs.Feed as Feed
-use Rattle.rules.specs.Feed.{Feed, shut, fed, soundFeed, wholeLines, faultSoFar, advice, FeedOutcome, feedOutcome, feedStopped, feedDone, openFeed, feedAnswer, pieceStopped, feedPiece, dropFeed, closeOutcome, closeStopped, closeFeed, canAnswerFeed, canAnswerClose, joined, advices, countLF}
+use Rattle.rules.specs.Feed.{Feed, shut, fed, soundFeed, wholeLines, faultSoFar, advice, FeedOutcome, feedOutcome, feedStopped, feedDone, openFeed, feedAnswer, pieceStopped, feedPiece, dropFeed, closeOutcome, closeStopped, closeFeed, canAnswerFeed, canAnswerClose, joined, advices, silent, countLF}
 use Rattle.rules.specs.declared.answer.FeedAnswer.{FeedAnswer}
 use Rattle.rules.specs.History.{Call, loading, forcing, basing, resetting, askingHigh, listing, listingUndefined, ending, workFits, canAnswer, calledAll}
 use Rattle.rules.specs.Image as Image
@@ -30,7 +30,7 @@ use Rattle.rules.specs.Answers.{answerName}
 use Rattle.rules.specs.Line.{lineAnswer, lineAnswerOver}
 use Rattle.rules.specs.Reading.{free, readingOf, itemsOf}
 use Rattle.rules.specs.State.{Symbol, symbol, Word, plain, unplaced, refers, Mark, unmarked, broken, frozen, State, state, fresh, positionOf, high, highest, sound, soundOver}
-use Rattle.rules.specs.Calls.{wrongLength, damaged, holding, Left, asBefore, now, Outcome, outcome, workAfter, loadAnswer, loadStopped, load, force, forceOver, base, reset, memory, symbols, undefined, end}
+use Rattle.rules.specs.Calls.{callAnswer, wrongLength, damaged, holding, Left, asBefore, now, Outcome, outcome, workAfter, loadAnswer, loadStopped, load, force, forceOver, base, reset, memory, symbols, undefined, end}
 use Rattle.rules.specs.Lookup.{lookup, answered, readBy, lookUp, nameAt}
 use Rattle.rules.specs.declared.lookup.Lookup.{Lookup}
 use Rattle.rules.specs.declared.line.FaultKind.{FaultKind}
@@ -719,15 +719,17 @@ Feeds =
     × (advice (bytes "3 ***TITLE\n") (bytes "?\n") ≡ Stopped 19 2 1)
     × (advice [] (bytes "3 ***TITLE\n") ≡ Complete)
     × (advices [] (bytes "X" ∷ [] ∷ bytes "\n" ∷ bytes "Y\n" ∷ []) ≡ Complete ∷ Complete ∷ Stopped 20 1 1 ∷ Complete ∷ [])
+    × (silent (Complete ∷ Complete ∷ []) ≡ true)
+    × (silent (Complete ∷ Stopped 20 1 1 ∷ []) ≡ false)
     × (joined (bytes "A" ∷ replicate 513 65 ∷ [] ∷ bytes "B" ∷ []) ≡ bytes "AB")
     × (soundFeed shut ≡ true)
     × (soundFeed (fed (0 ∷ 255 ∷ [])) ≡ true)
     × (soundFeed (fed (256 ∷ [])) ≡ false)
     × (openFeed wrongLength ≡ feedStopped 1)
     × (openFeed damaged ≡ feedStopped 2)
-    × (openFeed (holding shut) ≡ feedDone (fed []))
+    × (openFeed (holding shut) ≡ feedOutcome (callAnswer 0) (now (fed [])))
     × (openFeed (holding (fed [])) ≡ feedStopped 23)
-    × (feedPiece wrongLength [] ≡ pieceStopped 1)
+    × (feedPiece wrongLength [] ≡ feedOutcome (feedAnswer 1 0 0 0) asBefore)
     × (feedPiece damaged [] ≡ pieceStopped 2)
     × (feedPiece (holding shut) [] ≡ pieceStopped 23)
     × (feedPiece (holding (fed (bytes "X"))) (bytes "\nY") ≡ feedOutcome (feedAnswer 0 20 1 1) (now (fed (bytes "X\nY"))))
@@ -776,5 +778,5 @@ small-table = (
   (refl, refl, refl, refl, refl, refl, refl, refl, refl, refl, refl, refl, refl, refl, refl, refl, refl, refl, refl, refl, refl, refl, refl, refl, refl),
   (refl, refl, refl, refl, refl, refl, refl, refl),
   (refl, refl, refl, refl, refl, refl, refl, refl, refl, refl, refl, refl, refl, refl, refl, refl, refl, refl, refl, refl, refl, refl, refl, refl, refl, refl),
-  (refl, refl, refl, refl, refl, refl, refl, refl, refl, refl, refl, refl, refl, refl, refl, refl, refl, refl, refl, refl, refl, refl, refl, refl, refl, refl, refl, refl, refl, refl, refl, refl, refl, refl, refl, refl, refl, refl, refl, refl, refl),
+  (refl, refl, refl, refl, refl, refl, refl, refl, refl, refl, refl, refl, refl, refl, refl, refl, refl, refl, refl, refl, refl, refl, refl, refl, refl, refl, refl, refl, refl, refl, refl, refl, refl, refl, refl, refl, refl, refl, refl, refl, refl, refl, refl),
 )

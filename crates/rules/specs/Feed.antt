@@ -149,8 +149,11 @@ advices bytes [] = []
 advices bytes (p ∷ ps) = advice bytes p ∷ advices (bytes ++ p) ps
 
 -- nothing is told
+abbrev pub silent : List Reading → Bool
+silent told = all (λ a. ifComplete a true false) told
+
 abbrev pub Silent : List Reading → Type 0
-Silent told = all (λ a. ifComplete a true false) told ≡ true
+Silent told = silent told ≡ true
 
 -- nothing is told where there is no fault; else one piece tells it, and no other tells anything
 pub data ToldOnce (told : List Reading) : Reading → Type 0 where
