@@ -1,5 +1,7 @@
 // The first reading fault of a file's whole lines, told while the file is still coming. The lines are read as LOAD reads them, but
 // nothing is kept of what they say.
+#![tactic(auto)]
+
 ghost use Rattle.std.specs.Prelude.{◌≤◌, ◌≡◌, length, take};
 ghost use Rattle.rules.specs.Limits.{longest_file};
 ghost use Rattle.reading.specs.Lines.{told};

@@ -1,4 +1,6 @@
 // The names of the answers, as the definitions have them.
+#![tactic(auto)]
+
 ghost use Rattle.std.specs.Prelude.{◌≡◌, take};
 ghost use Rattle.rules.specs.Answers.{answer_name};
 ghost use Rattle.answers.specs.Names.{Named};

@@ -1,4 +1,6 @@
 // Lent cells as a whole: copied, and cleared.
+#![tactic(auto)]
+
 ghost use Rattle.std.specs.Prelude.{◌≤◌, ◌++◌, ◌≡◌, length, drop, replicate};
 
 // All cells of one slice into another of the same length. The target's length is counted: where that is an array's, the compiler

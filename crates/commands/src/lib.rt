@@ -1,5 +1,7 @@
 // The calls that change a state: RESET, BASE, FORCE and END. Each tests what document 01 names, in its order, and asks nothing of
 // what it is lent.
+#![tactic(auto)]
+
 ghost use Rattle.std.specs.Prelude.{◌≡◌};
 ghost use Rattle.rules.specs.Calls.{call_answer, end_answer, reset as reset_outcome, base as base_outcome, force as force_outcome, end as end_outcome};
 ghost use Rattle.rules.specs.Placing.{mention as mentioned_in};

@@ -1,4 +1,6 @@
 // The dialogue of the program `lnk100` on standard input and output: command lines in, calls of the linker, lines out.
+#![tactic(auto)]
+
 mod files;
 mod input;
 mod listing;

@@ -1,6 +1,8 @@
 // A load in pieces: opened, fed, and closed or dropped. Each call tests feed memory, in document 02's order, and asks nothing of what it
 // is lent. No call reads on from where the last one stood: what stands in feed memory is all that there is, and it may be anything, so
 // that what a piece has to know of the lines before it is read out of the bytes.
+#![tactic(auto)]
+
 pub mod close;
 pub mod piece;
 

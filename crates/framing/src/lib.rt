@@ -1,5 +1,7 @@
 // Headers and titles in their usual form: the right fields, with spaces between and around them, and a code of one digit. They are read in
 // one pass. A line in any other form is declined, and then read as every line can be: nothing is told of faults here.
+#![tactic(auto)]
+
 ghost use Rattle.std.specs.Prelude.{◌≤◌, ◌<◌, true, false, ◌≡◌, length};
 ghost use Rattle.rules.specs.declared.line.Expected.TheVariants.{AnyHeader};
 ghost use Rattle.framing.specs.Framing.{TextEnd, MarkerEnd, CountAt, Begun, HeaderEnded, title_by, LineSaid};

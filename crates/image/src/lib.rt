@@ -1,4 +1,6 @@
 // END's output: a record for each placed word, then the end record.
+#![tactic(auto)]
+
 ghost use Rattle.std.specs.Prelude.{◌≡◌, ◌+◌, ◌<◌, ◌≤◌, ◌∷◌, length};
 ghost use Rattle.rules.specs.Limits.{program_words};
 ghost use Rattle.rules.specs.Image.{two, quarters, word_record, completed, image_of};

@@ -7,6 +7,8 @@
 // on to one of the two links, by the next bit of the name's quotient, the lowest first. A new entry is put where the search for its
 // name ends. So no choice of names costs more: two names of one slot differ in a bit of the quotient, where their ways part. Legal
 // names have 48 bits and their quotients 38, and a search meets at most 39 entries (proofs/PathLaws).
+#![tactic(auto)]
+
 ghost use Rattle.std.specs.Prelude.{ℕ, ◌+◌, ◌-◌, ◌<◌, ◌≤◌, true, ◌≡◌, length};
 ghost use Rattle.rules.specs.Limits.{most_modules, most_entries};
 ghost use Rattle.rules.specs.Load.{entry_names};

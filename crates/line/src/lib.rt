@@ -1,4 +1,6 @@
 // What one line of an object file says, by what is expected of it.
+#![tactic(auto)]
+
 ghost use Rattle.std.specs.Prelude.{◌≡◌};
 ghost use Rattle.rules.specs.Limits.{longest_line};
 ghost use Rattle.rules.specs.Text.{legal_front};

@@ -1,6 +1,8 @@
 // The line reader: it holds the file and the position of its next line. The borrow checker covers no function over a struct
 // that holds a slice: each is proved by hand, so they are few and thin, and the work is `next_line`'s, a cursor over a plain
 // slice.
+#![tactic(auto)]
+
 ghost use Rattle.std.specs.Prelude.{◌≡◌, ◌<◌, length};
 ghost use Rattle.text.specs.LineEnds.{NextLine};
 

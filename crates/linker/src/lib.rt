@@ -1,4 +1,6 @@
 // The public calls, exported for C and Rust: include/lnk100.h declares them.
+#![tactic(auto)]
+
 ghost use Rattle.std.specs.Prelude.{◌≡◌};
 ghost use Rattle.rules.specs.Calls.{load, reset, base, force, end, memory, symbols, undefined};
 ghost use Rattle.rules.specs.Feed.{open_feed, feed_piece, close_feed, drop_feed};

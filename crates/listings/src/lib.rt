@@ -1,4 +1,6 @@
 // The calls that only look: MEMORY, SYMBOLS and UNDEFINED. They work on broken and frozen states too.
+#![tactic(auto)]
+
 ghost use Rattle.std.specs.Prelude.{◌≡◌};
 ghost use Rattle.rules.specs.Calls.{symbol_none, undefined_none, memory as memory_answer_lem, symbols as symbols_answer, undefined as undefined_answer};
 ghost use Rattle.state.specs.Layout.{lent};

@@ -1,4 +1,6 @@
 // LOAD: the tests in document 01's order, the reading, and the walk; a refused walk is undone.
+#![tactic(auto)]
+
 ghost use Rattle.std.specs.Prelude.{◌≤◌, ◌≡◌, length};
 ghost use Rattle.rules.specs.Limits.{longest_file, work_size};
 ghost use Rattle.rules.specs.Load.{walked, walk_from, load_file};

@@ -1,4 +1,6 @@
 // Placing a module: the tests 9 to 14 in their order, and its effect on the state as they pass.
+#![tactic(auto)]
+
 mod names;
 mod symbols;
 mod tests;

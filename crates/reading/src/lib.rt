@@ -1,4 +1,6 @@
 // The lines of a file, read one after the other: for a load into the two tables, or for their first fault alone.
+#![tactic(auto)]
+
 pub mod fill;
 pub mod keep;
 pub mod said;

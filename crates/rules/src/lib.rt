@@ -1,4 +1,6 @@
 // The types that the definitions of specs/ and the code of the crates above share. No function lives here.
+#![tactic(auto)]
+
 pub mod answer;
 pub mod limits;
 pub mod line;

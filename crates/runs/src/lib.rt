@@ -1,6 +1,8 @@
 // Records that follow each other in their usual form: the right fields, with spaces between them and, where they stand in columns, around
 // them. They are found to be right without their values, and without a mode made anew for each. A line in any other form ends the run,
 // and is then read as every line can be: nothing is told of faults here.
+#![tactic(auto)]
+
 pub mod fields;
 pub mod lines;
 pub mod modes;

@@ -1,4 +1,6 @@
 // The search of a library section, over the tables.
+#![tactic(auto)]
+
 pub mod candidates;
 pub mod modules;
 pub mod rounds;

@@ -1,6 +1,8 @@
 // Drives every call but LOAD over fresh, forced, full, frozen, broken and damaged states, wrong lengths and short outputs.
 // A line of answers: the number, the line, and what else the call gives, in the order of its struct; then, of a call that may
 // change something, what became of the lent cells. What is printed is held to the file stdout beside src/.
+#![tactic(auto)]
+
 use libc::STDOUT_FILENO;
 use linker::{
     STATE_CELLS, lnk100_base, lnk100_end, lnk100_force, lnk100_memory, lnk100_reset,

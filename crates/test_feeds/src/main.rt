@@ -22,6 +22,8 @@
 // A file's stop `.cut` leaves the LF in front of it out of the file. In a file ^ stands for a CR and ~ for a TAB.
 //
 // Feed memory of wrong lengths and damaged feed memory are not in the script: damage.rt has them.
+#![tactic(auto)]
+
 mod calls;
 mod damage;
 mod files;

@@ -14,6 +14,8 @@
 //   M            HIGH and the image
 //   K, G         keeps the state; goes back to it
 //   D n          puts 7 into cell n of the state
+#![tactic(auto)]
+
 mod calls;
 mod cells;
 mod listing;

@@ -9,6 +9,8 @@
 //   # text      a comment; it is skipped, and so is an empty line
 //
 // A file's line `\n text` is that text n times, without a line end. In such a text, a header and a record \n, \r and \xhh are bytes.
+#![tactic(auto)]
+
 mod build;
 mod cases;
 mod show;

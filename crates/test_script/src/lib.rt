@@ -1,4 +1,5 @@
 // The text of a script that a program plays: its lines, their operands, and the files that stand in it.
+#![tactic(auto)]
 
 // The bytes from one position to another; all where the two do not lie so.
 pub fn between(text: &[u8], from: usize, to: usize) -> &[u8] {

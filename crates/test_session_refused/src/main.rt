@@ -1,4 +1,6 @@
 // A session of the dialogue: each refusal of LOAD that files can bring about.
+#![tactic(auto)]
+
 fn main() {
     dialogue::run();
 }

@@ -1,5 +1,7 @@
 // Records in their usual form, read in one pass. Most lines of a file are code records of four numbers with spaces between them and
 // the line's end right behind the last. A line in any other form is declined, and then read as every line can be: nothing is told of faults here.
+#![tactic(auto)]
+
 ghost use Rattle.std.specs.Prelude.{true, false, ◌≡◌, ◌≤◌, ◌<◌, length};
 ghost use Rattle.rules.specs.declared.line.Expected.TheVariants.{CodeRecord};
 ghost use Rattle.usual.specs.Words.{parts, LineEnded, WordRead};

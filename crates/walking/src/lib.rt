@@ -1,5 +1,7 @@
 // The walk over what a file holds: the rows in order, free modules placed, sections tested and searched. The order of the table's names
 // is made before the first row, and every row keeps it up.
+#![tactic(auto)]
+
 ghost use Rattle.std.specs.Prelude.{◌≤◌, ◌<◌, ◌≡◌, length};
 ghost use Rattle.rules.specs.Reading.{free};
 ghost use Rattle.rules.specs.Load.{walk_item, walk_items};
