@@ -14,4 +14,4 @@ pub returns-else-fault-front : goal.returns-else-fault-front
 returns-else-fault-front c = byte_before _ _ _ c.if-size-front.false c.in-Bad.is c.if-fault-front.false c.bad.ensures
 
 pub returns-in_default : goal.returns-in_default
-returns-in_default c = byte_only _ _ _ c.if-size-front.false c.in_default.in_default-own.keys2 c.bad-in_default.ensures
+returns-in_default c = byte_only _ _ _ c.if-size-front.false c.in_default.not-Bad c.bad-in_default.ensures

@@ -9,7 +9,7 @@ use borrow.Author.Rules.{rules}
 use Rattle.line.proofs.shapes.answer.Goals as goal
 
 pub returns-then-shape-lt12 : goal.returns-then-shape-lt12
-returns-then-shape-lt12 c = λ names e. rw (shape_header _ c.if-shape-lt12.true) (c.header_of.ensures c.args.t2 names refl refl)
+returns-then-shape-lt12 c = λ names e. rw (shape_header _ c.if-shape-lt12.true) (c.header_of.ensures c.args.n names refl refl)
 
 pub returns-in-12 : goal.returns-in-12
 unfolding said_by shape_of records record_shape values_of

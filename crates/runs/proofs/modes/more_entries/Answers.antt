@@ -18,4 +18,4 @@ unfolding entries_in
 returns-in-EntryRecord c = sym (ap (λ (w : Expected). c.args.m.object.entries + entries_in w c.args.k) c.in-EntryRecord.is)
 
 pub returns-in_default : goal.returns-in_default
-returns-in_default c = omega (arith, no_entries c.args.m.expected c.args.k c.in_default.in_default-own.keys2)
+returns-in_default c = omega (arith, no_entries c.args.m.expected c.args.k c.in_default.not-EntryRecord)

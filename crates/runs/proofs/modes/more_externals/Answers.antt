@@ -18,4 +18,4 @@ unfolding externals_in
 returns-in-ExternalRecord c = sym (ap (λ (w : Expected). c.args.m.object.externals + externals_in w c.args.k) c.in-ExternalRecord.is)
 
 pub returns-in_default : goal.returns-in_default
-returns-in_default c = omega (arith, no_externals c.args.m.expected c.args.k c.in_default.in_default-own.keys2)
+returns-in_default c = omega (arith, no_externals c.args.m.expected c.args.k c.in_default.not-ExternalRecord)

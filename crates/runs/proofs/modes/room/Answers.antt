@@ -22,4 +22,4 @@ unfolding room_by
 returns-in-DataRecord c = sym (ap (λ (w : Expected). room_by w c.args.m) c.in-DataRecord.is)
 
 pub returns-in_default : goal.returns-in_default
-returns-in_default c = no_room_lem c.args.m.expected c.args.m c.in_default.in_default-own.keys5
+returns-in_default c = no_room_lem c.args.m.expected c.args.m c.in_default.not-CodeRecord c.in_default.not-EntryRecord c.in_default.not-ExternalRecord c.in_default.not-DataRecord
