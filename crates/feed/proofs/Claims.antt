@@ -1,26 +1,26 @@
 -- Document 02, 5/14, on the calls' own outcomes: whatever the pieces, a close gives what one LOAD of their bytes joined gives; the first
 -- fault of the whole lines is told once; and feed memory is sound exactly if it is zero or was left by an opening and pieces.
-use Prim.Native.Nat.{ℕ, ◌+◌, ◌≤◌, ◌<◌}
+use Prim.Native.Nat.{ℕ, ◌≤◌, ◌<◌}
 use native.Mathlib.Omega.{arith}
-use mathlib.Core.Bool.{Bool, true, false, cond, ◌&&◌}
+use mathlib.Core.Bool.{Bool, true, false, cond}
 use mathlib.Core.List.{List, [], ◌∷◌, ◌++◌, map, append_assoc, append-nil}
-use mathlib.Core.Logic.{◌≢◌, ◌⊎◌, inl, inr}
+use mathlib.Core.Logic.{◌⊎◌, inl, inr}
 use mathlib.Core.Path.{◌≡◌, refl, sym, ap, ap₂, subst, ◌∙◌}
 use lib.ListN.{length, length-append}
-use lib.Dec.{leb, ltb}
+use lib.Dec.{ltb}
 use borrow.Author.Tests.{ltb-true, ltb-false, lt-ltb, le-ltb}
 use Rattle.rules.specs.Limits.{longest_file, longest_piece}
 use Rattle.rules.specs.Text.{all}
 use Rattle.rules.specs.Answers.{DONE, FEED}
-use Rattle.rules.specs.Calls.{LentOf, wrong_length, damaged, holding, LeftOf, as_before, now, Lent, call_answer, load}
+use Rattle.rules.specs.Calls.{LentOf, wrong_length, damaged, holding, now, call_answer, load}
 use Rattle.rules.specs.Feed.{Feed, shut, fed, kept, is_byte, sound_feed, fault_so_far, advice, advised, FeedOutcome, open_feed, piece_stopped, take_piece, feed_piece, close_outcome, CloseOutcome, close_feed, joined, advices, ToldOnce}
-use Rattle.rules.specs.History.{Reply, of_load, loading, work_fits}
+use Rattle.rules.specs.History.{of_load, loading, work_fits}
 use Rattle.rules.specs.declared.answer.CallAnswer.{CallAnswer}
 use Rattle.rules.specs.declared.answer.FeedAnswer.{FeedAnswer}
 use Rattle.rules.specs.declared.answer.LoadAnswer.{LoadAnswer}
 use Rattle.rules.specs.declared.reading.Reading.{Reading}
 use Rattle.rules.specs.declared.reading.Reading.TheVariants.{Complete, Stopped}
-use Rattle.rules.proofs.TestLaws.{Every, and_intro, and_left, and_right}
+use Rattle.rules.proofs.TestLaws.{and_intro, and_left, and_right}
 use Rattle.rules.proofs.FeedLaws.{kept_few, fed_so_far, piece_left, long_left, close_is_load, Within, no_fault, told_once}
 use Rattle.state.specs.Layout.{zeros, lent}
 use Rattle.state.specs.Promise.{LoadCalled}

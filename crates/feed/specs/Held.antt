@@ -1,5 +1,5 @@
 -- What the functions on feed memory find there and do to it.
-use Rattle.std.specs.Prelude.{ℕ, ◌+◌, ◌-◌, ◌/◌, ◌%◌, ◌^◌, ◌≤◌, Bool, true, cond, ◌&&◌, ◌||◌, List, map, ◌≡◌, length, get_or, set, eqb, leb, ltb}
+use Rattle.std.specs.Prelude.{ℕ, ◌+◌, ◌-◌, ◌/◌, ◌%◌, ◌^◌, ◌≤◌, Bool, true, cond, ◌&&◌, ◌||◌, List, map, ◌≡◌, length, get_or, set, eqb, ltb}
 use Rattle.rules.specs.Calls.{holding}
 use Rattle.rules.specs.Feed.{sound_feed}
 use Rattle.state.specs.Layout.{range}

@@ -1,5 +1,5 @@
 -- Feed memory: a lent slice of 64-bit cells, the feed that it holds, and what a call finds and leaves there.
-use Rattle.std.specs.Prelude.{ℕ, zero, suc, ◌+◌, ◌-◌, ◌*◌, ◌/◌, ◌%◌, Bool, cond, ◌&&◌, List, [], ◌∷◌, map, length, get_or, eqb}
+use Rattle.std.specs.Prelude.{ℕ, zero, suc, ◌+◌, ◌-◌, ◌*◌, ◌/◌, ◌%◌, Bool, cond, ◌&&◌, List, ◌∷◌, map, length, get_or, eqb}
 use Rattle.rules.specs.Text.{same_text}
 use Rattle.rules.specs.Calls.{LentOf, wrong_length, damaged, holding, LeftOf, as_before, now}
 use Rattle.rules.specs.Feed.{Feed, shut, fed, sound_feed}

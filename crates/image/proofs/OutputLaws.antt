@@ -1,7 +1,7 @@
 -- Bytes written at a position of the output, one piece behind the other.
-use Rattle.std.proofs.Common.{◌≡◌, ℕ, suc, ◌+◌, ◌-◌, ◌*◌, ◌/◌, ◌%◌, ◌<◌, ◌≤◌, min, List, [], ◌∷◌, ◌++◌, length, take, drop, set, sym, refl, ap, ◌∙◌, ap₂, append_assoc, append-nil, add_assoc, add-one, arith, length-append, length-drop, length-take, length-take-le, take-take, drop-drop, take_at, drop_at}
-use lib.Seq.{take-append-le, set_split, drop-append-add}
-use Rattle.rules.specs.Image.{two, quarters, word_record}
+use Rattle.std.proofs.Common.{◌≡◌, ℕ, suc, ◌+◌, ◌/◌, ◌%◌, ◌<◌, ◌≤◌, List, [], ◌∷◌, ◌++◌, length, take, drop, set, sym, refl, ap, ◌∙◌, ap₂, append_assoc, append-nil, add_assoc, add-one, arith, length-append, length-drop, length-take-le, take-take, drop-drop, take_at, drop_at}
+use lib.Seq.{take-append-le, set_split}
+use Rattle.rules.specs.Image.{two, quarters}
 use Rattle.image.specs.Output.{overlay}
 
 -- the front and the rest

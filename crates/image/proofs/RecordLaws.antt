@@ -1,9 +1,8 @@
 -- A word's record, from its tag and its text.
-use Rattle.std.proofs.Common.{◌≡◌, ℕ, suc, ◌+◌, ◌-◌, ◌*◌, ◌/◌, ◌%◌, ◌<◌, ◌≤◌, Bool, true, false, cond, ◌&&◌, ◌||◌, eqb, leb, ◌≢◌, List, [], ◌∷◌, ◌++◌, length, get_or, take, drop, sym, refl, ap, ◌∙◌, ap₂, append_assoc, add-zero, arith, length-append, length-drop, take-append-drop, take_all, drop-cons, drop-drop, eqb-true, leb-true}
-use lib.Seq.{drop-length}
+use Rattle.std.proofs.Common.{◌≡◌, ℕ, ◌+◌, ◌-◌, ◌%◌, ◌<◌, ◌≤◌, Bool, true, false, cond, ◌||◌, eqb, leb, ◌≢◌, List, [], ◌++◌, length, get_or, take, drop, sym, refl, ap, ◌∙◌, add-zero, arith, take-append-drop, eqb-true, leb-true}
 use Rattle.rules.specs.Text.{all}
-use Rattle.rules.specs.State.{Symbol, symbol, State, Word, unplaced, plain, refers, placed_words, is_placed}
-use Rattle.rules.specs.Image.{value_of, completed, two, quarters, word_record, record_of, records_from, end_record, image_of}
+use Rattle.rules.specs.State.{Symbol, Word, unplaced, plain, refers}
+use Rattle.rules.specs.Image.{value_of, completed, two, quarters, word_record, record_of}
 use Rattle.rules.proofs.TestLaws.{and_left, and_right, all_at}
 use Rattle.state.specs.Layout.{text_cell, tag_cell}
 use Rattle.state.specs.Good.{sound_value}

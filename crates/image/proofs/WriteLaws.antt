@@ -1,8 +1,7 @@
 -- The loop over all addresses: what is written, and what is still to be written.
-use Rattle.std.proofs.Common.{◌≡◌, ℕ, zero, suc, ◌+◌, ◌*◌, ◌<◌, ◌≤◌, Bool, true, false, cond, eqb, ◌≢◌, List, [], ◌∷◌, ◌++◌, length, get_or, take, drop, sym, refl, ap, ◌∙◌, ap₂, append_assoc, append-nil, add-zero, zero-add, add-one, arith, length-append, take-append-drop, drop_of_length-le, drop-cons, drop-drop, eq-eqb, ne_eqb}
-use Rattle.rules.specs.State.{Symbol, State, Word, unplaced, plain, refers, is_placed, placed_words, high, undefined_only}
-use Rattle.rules.specs.Image.{two, record_of, records_from, end_record, image_of}
-use Rattle.rules.proofs.ImageLaws.{image_length_lem}
+use Rattle.std.proofs.Common.{◌≡◌, ℕ, ◌+◌, ◌<◌, ◌≤◌, cond, ◌≢◌, List, [], ◌∷◌, ◌++◌, length, get_or, take, drop, sym, refl, ap, ◌∙◌, ap₂, append_assoc, append-nil, zero-add, add-one, arith, length-append, take-append-drop, drop_of_length-le, drop-cons, drop-drop}
+use Rattle.rules.specs.State.{State, Word, unplaced, plain, refers, is_placed, placed_words, high, undefined_only}
+use Rattle.rules.specs.Image.{two, records_from, end_record, image_of}
 use Rattle.state.specs.Layout.{tag_cell}
 use Rattle.image.specs.Output.{overlay, end_bytes, record_at, words_of, Written}
 use Rattle.image.proofs.OutputLaws.{overlay_length, overlay_take, overlay_drop, overlay_append}

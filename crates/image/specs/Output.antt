@@ -1,5 +1,5 @@
 -- How the functions that write the image say what they wrote.
-use Rattle.std.specs.Prelude.{◌≡◌, ℕ, ◌+◌, ◌≤◌, ◌≢◌, List, ◌∷◌, ◌++◌, length, take, drop, slice_index_or}
+use Rattle.std.specs.Prelude.{◌≡◌, ℕ, ◌+◌, ◌≢◌, List, ◌∷◌, ◌++◌, length, take, drop, slice_index_or}
 use Rattle.rules.specs.Image.{two, record_of, records_from}
 use Rattle.rules.specs.State.{State, unplaced}
 use Rattle.state.specs.Words.{Tagged}

@@ -1,9 +1,7 @@
-use Rattle.std.proofs.Common.{◌≡◌, ◌+◌, ◌-◌, ◌*◌, ◌≤◌, drop, sym, ◌∙◌, ⊎_elim, arith}
-use Rattle.rules.specs.State.{placed_words}
+use Rattle.std.proofs.Common.{sym, ◌∙◌, arith}
 use Rattle.rules.proofs.ImageLaws.{image_length_lem}
 use Rattle.state.specs.Layout.{decode}
 use Rattle.image.proofs.WriteLaws.{count_none, count_one, count_end}
-use Rattle.state.proofs.words.tag.Reads as tag-reads
 use Rattle.image.proofs.image_length.Goals as goal
 use Rattle.image.proofs.image_length.Goals.{then-tag-ne-UNPLACED, else-tag-ne-UNPLACED}
 
@@ -16,8 +14,8 @@ tag-requires c = record { good = c.requires; address_lt_program_words = omega ar
 pub loop-a-preserved : goal.loop-a-preserved
 loop-a-preserved c =
     elim c.if-tag-ne-UNPLACED.branch [
-      then-tag-ne-UNPLACED w ↦ omega (arith, count_one (decode c.args.state.now).words c.loop-a.a (omega (arith, c.requires.tidy.full)) (λ e. w.if-tag-ne-UNPLACED.true (c.tag.ensures.is ∙ e)))
-    | else-tag-ne-UNPLACED w ↦ omega (arith, count_none (decode c.args.state.now).words c.loop-a.a (omega (arith, c.requires.tidy.full)) (sym c.tag.ensures.is ∙ w.if-tag-ne-UNPLACED.false))
+      | then-tag-ne-UNPLACED w ↦ omega (arith, count_one (decode c.args.state.now).words c.loop-a.a (omega (arith, c.requires.tidy.full)) (λ e. w.if-tag-ne-UNPLACED.true (c.tag.ensures.is ∙ e)))
+      | else-tag-ne-UNPLACED w ↦ omega (arith, count_none (decode c.args.state.now).words c.loop-a.a (omega (arith, c.requires.tidy.full)) (sym c.tag.ensures.is ∙ w.if-tag-ne-UNPLACED.false))
     ]
 
 pub returns : goal.returns

@@ -1,9 +1,6 @@
-use Rattle.std.proofs.Common.{◌≡◌, ◌+◌, ◌-◌, ◌*◌, ◌≤◌, drop, sym, ◌∙◌, ⊎_elim, arith}
+use Rattle.std.proofs.Common.{◌≡◌, ◌+◌, ◌-◌, ◌*◌, ◌≤◌, drop}
 use Rattle.rules.specs.State.{placed_words}
-use Rattle.rules.proofs.ImageLaws.{image_length_lem}
 use Rattle.state.specs.Layout.{decode}
-use Rattle.image.proofs.WriteLaws.{count_none, count_one, count_end}
-use Rattle.state.proofs.words.tag.Reads as tag-reads
 use Rattle.image.proofs.image_length.Given as goal
 
 abbrev pub invariant-loop-a : goal.invariant-loop-a

@@ -1,9 +1,6 @@
-use Rattle.std.proofs.Common.{sym, ap, ◌∙◌, rules}
+use Rattle.std.proofs.Common.{sym, ap, ◌∙◌}
 use Rattle.rules.specs.Image.{word_record, completed}
 use Rattle.image.proofs.RecordLaws.{record_plain, record_linked}
-use Rattle.image.proofs.complete.Reads as complete-reads
-use Rattle.state.proofs.table.value_of.Reads as value-of-reads
-use Rattle.state.proofs.words.text.Reads as text-reads
 use Rattle.image.proofs.linked_word.Goals as goal
 
 pub returns-then-tag-eq-PLAIN : goal.returns-then-tag-eq-PLAIN

@@ -1,6 +1,5 @@
-use Rattle.std.proofs.Common.{◌++◌, ap, ◌∙◌, arith, length-set, rules}
+use Rattle.std.proofs.Common.{◌++◌, arith, length-set}
 use Rattle.rules.specs.Image.{two}
-use Rattle.image.specs.Output.{overlay}
 use Rattle.image.proofs.OutputLaws.{puts, puts_all}
 use Rattle.image.proofs.put_end.Goals as goal
 

@@ -1,4 +1,4 @@
-use Rattle.std.proofs.Common.{arith, length-set, rules}
+use Rattle.std.proofs.Common.{arith, length-set}
 use Rattle.rules.specs.Image.{two}
 use Rattle.image.proofs.OutputLaws.{puts, puts_all}
 use Rattle.image.proofs.put_head.Goals as goal

@@ -1,4 +1,4 @@
-use Rattle.std.proofs.Common.{ap, ◌∙◌, arith, length-set, rules}
+use Rattle.std.proofs.Common.{ap, ◌∙◌, arith, length-set}
 use Rattle.image.specs.Output.{overlay}
 use Rattle.image.proofs.OutputLaws.{puts, puts_all, quarter_bytes}
 use Rattle.image.proofs.put_quarters.Goals as goal

@@ -1,8 +1,5 @@
-use Rattle.std.proofs.Common.{length, ap, arith, rules}
+use Rattle.std.proofs.Common.{length, ap, arith}
 use Rattle.image.proofs.RecordLaws.{record_none, word_length, written_nothing, written_word}
-use Rattle.image.proofs.linked_word.Reads as linked-word-reads
-use Rattle.image.proofs.put_word.Reads as put-word-reads
-use Rattle.state.proofs.words.tag.Reads as tag-reads
 use Rattle.image.proofs.put_record.Goals as goal
 
 pub returns-then-t-eq-UNPLACED : goal.returns-then-t-eq-UNPLACED

@@ -1,9 +1,7 @@
-use Rattle.std.proofs.Common.{◌∷◌, ap, ◌∙◌, arith, rules}
+use Rattle.std.proofs.Common.{◌∷◌, ap, ◌∙◌, arith}
 use Rattle.rules.specs.Image.{two, quarters, word_record}
 use Rattle.image.specs.Output.{overlay}
 use Rattle.image.proofs.OutputLaws.{overlay_before}
-use Rattle.image.proofs.put_head.Reads as put-head-reads
-use Rattle.image.proofs.put_quarters.Reads as put-quarters-reads
 use Rattle.image.proofs.put_word.Goals as goal
 
 pub returns : goal.returns

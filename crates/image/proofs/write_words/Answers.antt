@@ -1,7 +1,6 @@
-use Rattle.std.proofs.Common.{◌-◌, arith}
+use Rattle.std.proofs.Common.{arith}
 use Rattle.state.specs.Layout.{decode}
-use Rattle.image.proofs.WriteLaws.{Writing, writing_start, writing_room, writing_step, writing_end}
-use Rattle.image.proofs.put_record.Reads as put-record-reads
+use Rattle.image.proofs.WriteLaws.{writing_start, writing_room, writing_step, writing_end}
 use Rattle.image.proofs.write_words.Goals as goal
 
 pub loop-a-init : goal.loop-a-init

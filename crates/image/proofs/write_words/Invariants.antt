@@ -1,7 +1,6 @@
-use Rattle.std.proofs.Common.{◌-◌, arith}
+use Rattle.std.proofs.Common.{◌-◌}
 use Rattle.state.specs.Layout.{decode}
-use Rattle.image.proofs.WriteLaws.{Writing, writing_start, writing_room, writing_step, writing_end}
-use Rattle.image.proofs.put_record.Reads as put-record-reads
+use Rattle.image.proofs.WriteLaws.{Writing}
 use Rattle.image.proofs.write_words.Given as goal
 
 abbrev pub invariant-loop-a : goal.invariant-loop-a

@@ -1,7 +1,6 @@
 -- `line::line_answer` meets its contract: what the fields say, tested by the bytes.
 -- Assumes nothing.
 use Rattle.line.proofs.AnswerLaws.{line_whole}
-use borrow.Author.Rules.{rules}
 use Rattle.line.proofs.line_answer.Goals as goal
 
 pub returns : goal.returns

@@ -1,7 +1,6 @@
 -- `line::test_bytes` meets its contract: the leftmost fault is told.
 -- Assumes nothing.
 use Rattle.line.proofs.AnswerLaws.{all_legal, fault_first, byte_before, byte_only}
-use borrow.Author.Rules.{rules}
 use Rattle.line.proofs.test_bytes.Goals as goal
 
 pub returns-then-size-front : goal.returns-then-size-front

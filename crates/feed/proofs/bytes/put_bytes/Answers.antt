@@ -1,9 +1,6 @@
-use Prim.Native.Nat.{◌-◌, ◌≤◌}
 use native.Mathlib.Omega.{arith}
-use mathlib.Core.List.{◌++◌}
-use mathlib.Core.Path.{◌≡◌, sym, ◌∙◌}
-use lib.ListN.{length, get_or, take}
-use Rattle.feed.specs.Layout.{cells_with, bytes_in}
+use mathlib.Core.Path.{sym, ◌∙◌}
+use Rattle.feed.specs.Layout.{bytes_in}
 use Rattle.feed.proofs.FeedLaws.{with_long}
 use Rattle.feed.proofs.StoreLaws.{put_start, put_end_lem, put_inside, put_fits, put_step}
 use Rattle.feed.proofs.bytes.put_bytes.Goals as goal

@@ -2,7 +2,6 @@ use native.Mathlib.Omega.{arith}
 use mathlib.Core.Path.{refl}
 use lib.ListN.{length-set}
 use Rattle.feed.specs.Layout.{byte_of}
-use borrow.Author.Rules.{rules}
 use Rattle.feed.proofs.bytes.spread.Goals as goal
 
 pub bounds-file-at-2 : goal.bounds-file-at-2

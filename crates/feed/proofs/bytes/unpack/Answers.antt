@@ -1,9 +1,7 @@
-use Prim.Native.Nat.{◌-◌, ◌*◌, ◌≤◌}
 use native.Mathlib.Omega.{arith}
-use mathlib.Core.Path.{◌≡◌, sym, ap, ◌∙◌}
+use mathlib.Core.Path.{sym, ap, ◌∙◌}
 use lib.ListN.{length}
 use Rattle.state.proofs.ListLaws.{length_zeros}
-use Rattle.feed.specs.Held.{unpacked}
 use Rattle.feed.proofs.StoreLaws.{unpacked_none, unpacked_step, unpacked_end, unpacked_length}
 use Rattle.feed.proofs.bytes.unpack.Goals as goal
 

@@ -1,6 +1,5 @@
 use native.Mathlib.Omega.{arith}
 use Rattle.feed.proofs.HeldLaws.{clean_even, clean_over, clean_odd}
-use borrow.Author.Rules.{rules}
 use Rattle.feed.proofs.memory.clean_behind.Goals as goal
 
 pub returns-then-more-eq0 : goal.returns-then-more-eq0

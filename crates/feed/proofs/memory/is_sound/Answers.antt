@@ -3,7 +3,6 @@ use mathlib.Core.Path.{ap, ◌∙◌}
 use lib.ListN.{get_or}
 use Rattle.feed.specs.Held.{clean_behind}
 use Rattle.feed.proofs.HeldLaws.{standing_most, wrong_length_lem, mark_fails, clean_decides}
-use borrow.Author.Rules.{rules}
 use Rattle.feed.proofs.memory.is_sound.Goals as goal
 
 pub returns-then-feed-ne-SIZE : goal.returns-then-feed-ne-SIZE

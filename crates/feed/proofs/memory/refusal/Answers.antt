@@ -1,6 +1,5 @@
 use mathlib.Core.Path.{sym, ◌∙◌}
 use Rattle.feed.proofs.HeldLaws.{refusal_none, refusal_length, refusal_damaged}
-use borrow.Author.Rules.{rules}
 use Rattle.feed.proofs.memory.refusal.Goals as goal
 
 pub returns-then-is_sound : goal.returns-then-is_sound

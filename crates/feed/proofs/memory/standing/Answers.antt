@@ -1,6 +1,5 @@
 use Rattle.feed.proofs.HeldLaws.{standing_none, standing_some, standing_many}
 use native.Mathlib.Omega.{arith}
-use borrow.Author.Rules.{rules}
 use Rattle.feed.proofs.memory.standing.Goals as goal
 
 pub returns-then-mark-eq0 : goal.returns-then-mark-eq0

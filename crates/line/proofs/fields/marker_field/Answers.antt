@@ -2,7 +2,6 @@
 -- Assumes nothing.
 use Rattle.line.specs.Fitting.{as_held}
 use Rattle.line.proofs.KindLaws.{marker_yes, marker_no}
-use borrow.Author.Rules.{rules}
 use Rattle.line.proofs.fields.marker_field.Goals as goal
 
 pub returns-then-is_marker : goal.returns-then-is_marker

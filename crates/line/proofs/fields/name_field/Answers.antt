@@ -2,7 +2,6 @@
 -- Assumes nothing.
 use Rattle.line.specs.Fitting.{as_held}
 use Rattle.line.proofs.KindLaws.{name_yes, name_no}
-use borrow.Author.Rules.{rules}
 use Rattle.line.proofs.fields.name_field.Goals as goal
 
 pub returns-in-Packed : goal.returns-in-Packed

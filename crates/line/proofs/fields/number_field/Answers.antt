@@ -2,7 +2,6 @@
 -- Assumes nothing.
 use Rattle.line.specs.Fitting.{as_held}
 use Rattle.line.proofs.KindLaws.{number_low, number_high, number_yes, number_no}
-use borrow.Author.Rules.{rules}
 use Rattle.line.proofs.fields.number_field.Goals as goal
 
 pub returns-then-number-low : goal.returns-then-number-low

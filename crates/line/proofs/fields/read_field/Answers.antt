@@ -3,7 +3,6 @@
 use Rattle.rules.specs.Line.{read_field_over}
 use Rattle.line.specs.Fitting.{kind_of, as_held}
 use Rattle.line.proofs.KindLaws.{marker_letter}
-use borrow.Author.Rules.{rules}
 use Rattle.line.proofs.fields.read_field.Goals as goal
 
 pub returns-in-46 : goal.returns-in-46

@@ -4,8 +4,7 @@ use mathlib.Core.Path.{refl}
 use native.Mathlib.Omega.{arith}
 use borrow.Author.Rules.{rules}
 use Rattle.text.proofs.FieldLaws.{start_again}
-use Rattle.line.specs.Fitting.{letters_in}
-use Rattle.line.proofs.FitLaws.{Kept, kept_start, kept_room, kept_few, kept_wrong, kept_step, kept_many, kept_end}
+use Rattle.line.proofs.FitLaws.{kept_start, kept_room, kept_few, kept_wrong, kept_step, kept_many, kept_end}
 use Rattle.line.proofs.fitting.fit.Goals as goal
 
 pub loop-left-init : goal.loop-left-init

@@ -1,6 +1,5 @@
 -- `line::named::entry_from` meets its contract: field after field, by the type.
 -- Assumes nothing.
-use borrow.Author.Rules.{rules}
 use mathlib.Core.Path.{ap, ◌∙◌}
 use borrow.Author.Tests.{not-false}
 use Rattle.rules.specs.declared.line.LineAnswer.TheVariants.{Entered}

@@ -1,6 +1,5 @@
 -- `line::named::entry_line` meets its contract: an entry whose fields fit, or what its shape tells.
 -- Assumes nothing.
-use borrow.Author.Rules.{rules}
 use borrow.Author.Tests.{not-false}
 use Rattle.line.proofs.named.entry_line.Goals as goal
 

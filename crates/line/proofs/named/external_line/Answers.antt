@@ -1,6 +1,5 @@
 -- `line::named::external_line` meets its contract: a name and no more, or what the shape tells.
 -- Assumes nothing.
-use borrow.Author.Rules.{rules}
 use borrow.Author.Tests.{not-false}
 use Rattle.line.specs.Shapes.{records, shape_of}
 use Rattle.line.proofs.NamedLaws.{behind_field, external_says}

@@ -1,6 +1,5 @@
 -- `line::named::number_from` meets its contract: the next field, where it is a number.
 -- Assumes nothing.
-use borrow.Author.Rules.{rules}
 use mathlib.Core.Path.{refl, sym, ap, ◌∙◌}
 use Rattle.rules.specs.Text.{number_of}
 use Rattle.text.specs.Values.{number_in}

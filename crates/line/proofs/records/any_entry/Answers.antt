@@ -5,7 +5,6 @@ use Rattle.rules.specs.Text.{number_of}
 use Rattle.rules.specs.Line.{is_one}
 use Rattle.line.proofs.PeekLaws.{seen}
 use Rattle.line.proofs.RecordLaws.{entry_relocated, entry_absolute}
-use borrow.Author.Rules.{rules}
 use Rattle.line.proofs.records.any_entry.Goals as goal
 
 pub returns-then-is_one : goal.returns-then-is_one

@@ -1,7 +1,6 @@
 -- `line::records::is_one` meets its contract: by what `read_number` answers.
 -- Assumes nothing.
 use Rattle.line.proofs.KindLaws.{one_is, one_not}
-use borrow.Author.Rules.{rules}
 use Rattle.line.proofs.records.is_one.Goals as goal
 
 pub returns-in-Value : goal.returns-in-Value

@@ -1,9 +1,8 @@
 -- `line::records::plain_line` meets its contract: at each quarter what is left decides. Four quarters fit a u64.
 -- Assumes nothing.
-use Prim.Native.Nat.{◌-◌}
 use native.Mathlib.Omega.{arith}
 use borrow.Author.Rules.{rules}
-use Rattle.line.proofs.RecordLaws.{Quarters, quarters_start, quarters_room, quarters_few, quarters_wrong, quarters_step, quarters_many, quarters_end}
+use Rattle.line.proofs.RecordLaws.{quarters_start, quarters_room, quarters_few, quarters_wrong, quarters_step, quarters_many, quarters_end}
 use Rattle.line.proofs.records.plain_line.Goals as goal
 
 pub loop-k-init : goal.loop-k-init

@@ -1,7 +1,5 @@
 use Prim.Native.Nat.{◌-◌}
-use native.Mathlib.Omega.{arith}
-use borrow.Author.Rules.{rules}
-use Rattle.line.proofs.RecordLaws.{Quarters, quarters_start, quarters_room, quarters_few, quarters_wrong, quarters_step, quarters_many, quarters_end}
+use Rattle.line.proofs.RecordLaws.{Quarters}
 use Rattle.line.proofs.records.plain_line.Given as goal
 
 abbrev pub invariant-loop-k : goal.invariant-loop-k

@@ -1,11 +1,10 @@
 -- `line::shapes::answer` meets its contract: by the shape.
 -- Assumes nothing.
-use mathlib.Core.Path.{refl, sym, ap, ◌∙◌}
+use mathlib.Core.Path.{refl}
 use Rattle.line.specs.Fitting.{values_of}
 use Rattle.rules.specs.Line.{record_shape}
 use Rattle.line.specs.Shapes.{records, shape_of, said_by}
 use Rattle.line.proofs.ShapeLaws.{shape_header, last_shape}
-use borrow.Author.Rules.{rules}
 use Rattle.line.proofs.shapes.answer.Goals as goal
 
 pub returns-then-shape-lt12 : goal.returns-then-shape-lt12
