@@ -8,7 +8,7 @@ ghost use Rattle.text.specs.LineEnds.{NextLine};
 
 use text::lines::{LineSpan, next_line};
 
-#[derive(Drop)]
+#[derive(Clone, Copy)]
 pub struct LineReader<'a> {
     pub src: &'a [u8],
     pub at: usize,
