@@ -12,14 +12,14 @@ cd "$(dirname "$0")/.."
 specs=crates/rules/specs
 known=missed/definitions.txt
 jobs=${RT_JOBS:-2}
-numbers=$(sed -nE 's/^([A-Z-]+) = [0-9]+$/\1, /p' $specs/Answers.antt | tr -d '\n')
+numbers=$(sed -nE 's/^([A-Z_]+) = [0-9]+$/\1, /p' $specs/Answers.antt | tr -d '\n')
 [ $# -gt 0 ] || set -- $(basename -s .antt -a $specs/*.antt | grep -vx Lib)
 work=$(mktemp -d)
 trap 'rm -rf "$work"' EXIT
 
 # The spoilt lines of a file: its name, the line's number, the line as it is then. Signatures, imports and comments are passed over.
 spoilt() { # FILE
-  LC_ALL=C awk -v file="$1" -v answers="$(sed -nE 's/^([A-Z-]+) = [0-9]+$/\1/p' $specs/Answers.antt | tr '\n' ' ')" '
+  LC_ALL=C awk -v file="$1" -v answers="$(sed -nE 's/^([A-Z_]+) = [0-9]+$/\1/p' $specs/Answers.antt | tr '\n' ' ')" '
     BEGIN {
       n = split(answers, list, " ")
       for (i = 1; i <= n; i++) other[list[i]] = list[i % n + 1]
@@ -37,7 +37,7 @@ spoilt() { # FILE
     /^ *(--|use |module |$)/ || /^ *((unfoldable|abbrev) )?(pub )?[^ ]+( \{[^}]*\})? : / || /^ *(pub )?(record|data) / { next }
     {
       at = 1
-      while (match(substr($0, at), /"[^"]*"|[0-9][0-9A-Za-z_]*|[A-Za-z][A-Za-z0-9-]*|&&|\|\|/)) {
+      while (match(substr($0, at), /"[^"]*"|[0-9][0-9A-Za-z_]*|[A-Za-z][A-Za-z0-9_-]*|&&|\|\|/)) {
         start = at + RSTART - 1
         word = substr($0, start, RLENGTH)
         before = start == 1 ? " " : substr($0, start - 1, 1)
@@ -53,9 +53,15 @@ spoilt() { # FILE
 prepared() { # COPY
   mkdir "$1"
   cp -r crates crates.txt "$1"
-  sed -i -E 's/^use lib\.Dec\.\{.*\}$/use lib.Dec.{eqb, leb, ltb}/
-    s/^use mathlib\.Core\.Bool\.\{.*\}$/use mathlib.Core.Bool.{Bool, true, false, cond, not, _\&\&_, _||_}/
-    s/^use (Rattle·rules·specs\.specs\.Answers)\.\{.*\}$/use \1.{'"$numbers"'isLineFault, isFileFault}/' "$1"/$specs/*.antt
+  sed -i -E '/^use Rattle\.std\.specs\.Prelude\.\{.*\}$/ {
+      s/\{(.*)\}$/{, \1,}/
+      :again
+      s/, (eqb|leb|ltb|Bool|true|false|cond|not|◌&&◌|◌\|\|◌),/,/
+      t again
+      s/\{,(.*),\}$/{eqb, leb, ltb, Bool, true, false, cond, not, ◌\&\&◌, ◌||◌,\1}/
+      s/,\}$/}/
+    }
+    s/^use (Rattle\.rules\.specs\.Answers)\.\{.*\}$/use \1.{'"$numbers"'is_line_fault, is_file_fault}/' "$1"/$specs/*.antt
   (cd "$1" && rt dev rules) > "$1/said" 2>&1 || true
   grep -q '^logic=proved' "$1/said" || { echo "wrong-definitions: rules is not proved as it is"; cat "$1/said"; exit 1; }
   cp -r "$1/target/inc" "$1/checked"
