@@ -50,7 +50,7 @@ for name; do
   (cd "$copy/crates/$crate" && rt check) > "$copy/said" 2>&1 || true
   # rt checks the crates below it first, and says so where one of them is not proved
   if grep -q '^logic=not-proved' "$copy/said" && ! grep -q '^rt: the library .* did not build' "$copy/said"; then
-    echo "missed: $name, by $crate at $(grep -m 1 -oE '(src|specs|proofs)/[^ ]*:[0-9]+:[0-9]+: .*' "$copy/said" | cut -c1-150 || true)"
+    echo "missed: $name, by $crate at $(grep -m 1 -oE '(src|specs|proofs)/[^ ]*:[0-9]+:[0-9]+: (error|it is not proved).*' "$copy/said" | cut -c1-150 || true)"
   else
     echo "missed: NOT $name: $(grep -m 1 -E '^(rt: the library|logic=)' "$copy/said" || tail -n 1 "$copy/said")"
     failed=$((failed + 1))
