@@ -11,14 +11,16 @@
 set -eu
 cd "$(dirname "$0")/.."
 out=$PWD/target/unproved
-scripts/watched-kit.sh "$out/kit" "$out/modules"
+mkdir -p "$out"
+# outside of the checkout, in which rt ci allows no other .rt files
+work=$(mktemp -d)
+trap 'rm -rf "$work"' EXIT
+scripts/watched-kit.sh "$work/kit" "$out/modules"
 
 # the crates once more, with a program that makes all the calls
-rm -rf "$out/copy"
-mkdir -p "$out/copy/crates/calls/src"
-tar --exclude='crates/*/out' -cf - crates crates.txt | tar -C "$out/copy" -xf -
-cd "$out/copy"
-git init -q .
+mkdir -p "$work/copy/crates/calls/src"
+tar --exclude='crates/*/out' -cf - crates crates.txt | tar -C "$work/copy" -xf -
+cd "$work/copy"
 echo 'calls: linker' >> crates.txt
 cat > crates/calls/src/main.rt <<'RT'
 fn main(rt: HostRuntime) {
@@ -41,11 +43,11 @@ fn main(rt: HostRuntime) {
     let l = linker::lnk100_drop(&mut feed);
 }
 RT
-(cd crates/calls && "$out/kit/bin/rt" try) > "$out/log" 2>&1 || { cat "$out/log"; exit 1; }
+(cd crates/calls && "$work/kit/bin/rt" try) > "$out/log" 2>&1 || { cat "$out/log"; exit 1; }
 
 # the second module is the one with the checks; its words but those of a program that is tried
 cd "$out"
-clang=$(readlink -f kit/toolchain/lib)/../bin/clang
+clang=$(readlink -f "$work/kit/toolchain/lib")/../bin/clang
 "$clang" --target=x86_64-unknown-linux-gnu -x ir modules/1.bc -S -emit-llvm -O0 -Xclang -disable-llvm-passes -o program.ll
 sed -E '/^attributes #/s/sanitize_address "frame-pointer"="all"/"frame-pointer"="none"/' program.ll | awk '
   /^define / {
@@ -74,4 +76,4 @@ ar rcs liblinker.a linker.o
 objcopy --set-section-alignment '.text.*=64' liblinker.a
 [ "${1:-}" != --only ] || exit 0
 cd ../../compare
-LNK100_LIB=$out exec cargo run --offline --quiet --release --features library --bin bench -- 61
+LNK100_LIB=$out cargo run --offline --quiet --release --features library --bin bench -- 61
