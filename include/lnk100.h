@@ -1,6 +1,6 @@
 /* lnk100.h: the proved linker's calls, for C and C++. docs/MANUAL.md has the files, the answers and the image.
  *
- *     rt staticlib linker                                            proves and writes the library, for x86-64 Linux
+ *     scripts/build.sh linker                                        proves and writes the library, for x86-64 Linux
  *     cc -Iinclude examples/link.c target/staticlib/liblinker.a      a whole program over it
  *
  * A link is: lnk100_reset, lnk100_load for each file in order, lnk100_end. For a file that comes in pieces, off a slow reader,

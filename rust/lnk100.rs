@@ -1,4 +1,4 @@
-//! A safe wrapper of the proved linker's calls, over `target/staticlib/liblinker.a` (`rt staticlib linker`). It owns the memory that
+//! A safe wrapper of the proved linker's calls, over `target/staticlib/liblinker.a` (`scripts/build.sh linker`). It owns the memory that
 //! the calls are lent and holds no linking logic. `examples/link.rs` and `examples/feed.rs` are whole programs.
 //!
 //! What each call promises stands in include/lnk100.h. `scripts/declarations.sh`, with which the gate begins, holds the declarations and
