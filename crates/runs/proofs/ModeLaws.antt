@@ -1,11 +1,11 @@
 -- The mode behind k records of a block, in one piece: what one record does, done k times.
-use Prim.Native.Nat.{ℕ, zero, suc, ◌+◌, ◌-◌, ◌≤◌, ◌<◌, min}
+use Prim.Native.Nat.{ℕ, zero, suc, ◌+◌, ◌-◌, ◌≤◌, ◌<◌}
 use native.Mathlib.Omega.{arith}
 use mathlib.Core.Bool.{Bool, true, false, cond}
 use mathlib.Core.List.{List}
 use mathlib.Core.Option.{some}
 use mathlib.Core.Path.{◌≡◌, refl, sym, ap, subst, ◌∙◌}
-use lib.Dec.{eqb, leb, ltb}
+use lib.Dec.{leb}
 use borrow.Author.Tests.{le-leb, lt-leb, lt-ltb, leb-true, leb-false}
 use Rattle.rules.specs.Line.{line_answer}
 use Rattle.rules.specs.Reading.{mode, open_block, open_module, record_done, count_entry, count_external, word_part, entry_step, external_step, step_of, step_at}
@@ -18,7 +18,7 @@ use Rattle.rules.specs.declared.reading.OpenSection.{OpenSection}
 use Rattle.rules.specs.declared.reading.Part.{Part}
 use Rattle.rules.specs.declared.reading.Part.TheVariants.{EntryPart, ExternalPart}
 use Rattle.rules.specs.declared.reading.Step.{Step}
-use Rattle.rules.specs.declared.reading.Step.TheVariants.{Stop, Next, Add, CloseModule, CloseSection}
+use Rattle.rules.specs.declared.reading.Step.TheVariants.{Next, Add}
 use Rattle.rules.proofs.BoolLaws.{never_none}
 use Rattle.runs.specs.Runs.{record_of, IsRecord}
 use Rattle.runs.specs.Modes.{counted, one_done, after_records, room_by, room_for, entries_in, externals_in}

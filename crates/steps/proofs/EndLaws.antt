@@ -1,7 +1,6 @@
 -- The end of a file: inside a module or a section, before a record, and at rest.
 use Prim.Native.Nat.{ℕ}
 use mathlib.Core.Bool.{Bool, true, false, not, ◌&&◌, ◌||◌, and-false, or-true}
-use mathlib.Core.List.{List}
 use mathlib.Core.Path.{◌≡◌, refl, ap, ap₂, ◌∙◌}
 use Rattle.rules.specs.Reading.{is_header, at_end}
 use Rattle.rules.specs.declared.line.Expected.{Expected}

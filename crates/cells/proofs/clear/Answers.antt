@@ -1,7 +1,5 @@
-use Prim.Native.Nat.{◌-◌}
 use native.Mathlib.Omega.{arith}
-use Rattle.cells.proofs.CellLaws.{Cleared, cleared_step, cleared_end}
-use borrow.Author.Rules.{rules}
+use Rattle.cells.proofs.CellLaws.{cleared_step, cleared_end}
 use Rattle.cells.proofs.clear.Goals as goal
 
 pub loop-i-preserved : goal.loop-i-preserved

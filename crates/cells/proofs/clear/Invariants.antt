@@ -1,7 +1,5 @@
 use Prim.Native.Nat.{◌-◌}
-use native.Mathlib.Omega.{arith}
-use Rattle.cells.proofs.CellLaws.{Cleared, cleared_step, cleared_end}
-use borrow.Author.Rules.{rules}
+use Rattle.cells.proofs.CellLaws.{Cleared}
 use Rattle.cells.proofs.clear.Given as goal
 
 abbrev pub invariant-loop-i : goal.invariant-loop-i

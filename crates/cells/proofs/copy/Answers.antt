@@ -1,8 +1,6 @@
-use Prim.Native.Nat.{◌-◌}
 use native.Mathlib.Omega.{arith}
-use mathlib.Core.Path.{◌≡◌, refl, sym, ◌∙◌}
-use lib.ListN.{length, replicate, length-replicate, get_or-replicate}
-use Rattle.cells.proofs.CellLaws.{Filled, filled_start, filled_step, filled_end}
+use mathlib.Core.Path.{refl, sym, ◌∙◌}
+use Rattle.cells.proofs.CellLaws.{filled_start, filled_step, filled_end}
 use Rattle.cells.proofs.copy.Goals as goal
 
 pub loop-i-init : goal.loop-i-init

@@ -1,8 +1,7 @@
 use Prim.Native.Nat.{◌-◌}
-use native.Mathlib.Omega.{arith}
-use mathlib.Core.Path.{◌≡◌, refl, sym, ◌∙◌}
-use lib.ListN.{length, replicate, length-replicate, get_or-replicate}
-use Rattle.cells.proofs.CellLaws.{Filled, filled_start, filled_step, filled_end}
+use mathlib.Core.Path.{◌≡◌}
+use lib.ListN.{length}
+use Rattle.cells.proofs.CellLaws.{Filled}
 use Rattle.cells.proofs.copy.Given as goal
 
 abbrev pub invariant-loop-i : goal.invariant-loop-i

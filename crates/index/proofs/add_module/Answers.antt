@@ -1,10 +1,9 @@
-use Prim.Native.Nat.{◌+◌, ◌-◌, ◌/◌, ◌<◌, ◌≤◌}
+use Prim.Native.Nat.{◌/◌, ◌<◌, ◌≤◌}
 use native.Mathlib.Omega.{arith}
 use mathlib.Core.Path.{refl, sym, subst, ◌∙◌}
 use lib.ListN.{length}
 use Rattle.rules.proofs.BoolLaws.{never}
-use Rattle.tables.specs.Tables.{start_in, end_in, cells_in}
-use Rattle.index.proofs.FillLaws.{Adding, adding_start, part_small, entry_fits, adding_next, adding_again, adding_done}
+use Rattle.index.proofs.FillLaws.{adding_start, part_small, entry_fits, adding_next, adding_again, adding_done}
 use Rattle.index.proofs.add_module.Goals as goal
 
 pub overflow_add-row : goal.overflow_add-row

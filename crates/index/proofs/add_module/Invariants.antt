@@ -1,10 +1,7 @@
-use Prim.Native.Nat.{◌+◌, ◌-◌, ◌/◌, ◌<◌, ◌≤◌}
-use native.Mathlib.Omega.{arith}
-use mathlib.Core.Path.{refl, sym, subst, ◌∙◌}
-use lib.ListN.{length}
-use Rattle.rules.proofs.BoolLaws.{never}
+use Prim.Native.Nat.{◌+◌, ◌-◌, ◌≤◌}
+use mathlib.Core.Path.{refl}
 use Rattle.tables.specs.Tables.{start_in, end_in, cells_in}
-use Rattle.index.proofs.FillLaws.{Adding, adding_start, part_small, entry_fits, adding_next, adding_again, adding_done}
+use Rattle.index.proofs.FillLaws.{Adding}
 use Rattle.index.proofs.add_module.Given as goal
 
 abbrev pub invariant-loop-q : goal.invariant-loop-q

@@ -1,9 +1,7 @@
 use native.Mathlib.Omega.{arith}
 use mathlib.Core.Path.{sym, ap, ◌∙◌}
-use borrow.Author.Tests.{not-true, not-false}
 use Rattle.tables.specs.Heads.{is_entry}
 use Rattle.index.proofs.FillLaws.{part_other, part_again, part_new}
-use borrow.Author.Rules.{rules}
 use Rattle.index.proofs.add_part.Goals as goal
 
 pub returns-then-not-is_entry : goal.returns-then-not-is_entry

@@ -1,8 +1,5 @@
 use Prim.Native.Nat.{◌-◌, ◌≤◌}
-use native.Mathlib.Omega.{arith}
-use mathlib.Core.Path.{◌≡◌, sym, subst, ◌∙◌}
 use Rattle.index.specs.Index.{Cleared}
-use Rattle.index.proofs.EnterLaws.{cleared_start, cleared_next}
 use Rattle.index.proofs.clear.Given as goal
 
 abbrev pub invariant-loop-i : goal.invariant-loop-i

@@ -2,7 +2,6 @@ use native.Mathlib.Omega.{arith}
 use mathlib.Core.Path.{refl}
 use lib.ListN.{length-set}
 use Rattle.index.specs.Index.{entered}
-use borrow.Author.Rules.{rules}
 use Rattle.index.proofs.enter.Goals as goal
 
 pub bounds-index-entry : goal.bounds-index-entry

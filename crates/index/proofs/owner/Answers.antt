@@ -3,7 +3,6 @@ use native.Mathlib.Omega.{arith}
 use mathlib.Core.Path.{◌≡◌, ap}
 use lib.ListN.{get_or}
 use Rattle.index.proofs.SeekLaws.{cell_fits}
-use borrow.Author.Rules.{rules}
 use Rattle.index.proofs.owner.Goals as goal
 
 pub overflow_cast-result : goal.overflow_cast-result

@@ -1,7 +1,5 @@
-use Prim.Native.Nat.{◌-◌, ◌≤◌}
 use native.Mathlib.Omega.{arith}
 use mathlib.Core.Path.{◌≡◌, sym, ◌∙◌}
-use Rattle.index.specs.Index.{Filled}
 use Rattle.index.proofs.FillLaws.{filled_start, tested_again, tested_once}
 use Rattle.index.proofs.repeats.Goals as goal
 

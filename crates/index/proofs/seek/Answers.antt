@@ -1,7 +1,7 @@
-use Prim.Native.Nat.{◌+◌, ◌-◌, ◌*◌}
+use Prim.Native.Nat.{◌+◌, ◌*◌}
 use native.Mathlib.Omega.{arith}
 use mathlib.Core.Path.{refl, sym, ◌∙◌}
-use Rattle.index.proofs.SeekLaws.{cell_fits, Seeking, seek_start, seek_most, seek_low, seek_later, seek_next, seek_here, seek_none}
+use Rattle.index.proofs.SeekLaws.{cell_fits, seek_start, seek_most, seek_low, seek_later, seek_next, seek_here, seek_none}
 use Rattle.index.proofs.seek.Goals as goal
 
 pub bounds-index-at : goal.bounds-index-at

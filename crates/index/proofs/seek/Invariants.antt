@@ -1,7 +1,5 @@
-use Prim.Native.Nat.{◌+◌, ◌-◌, ◌*◌}
-use native.Mathlib.Omega.{arith}
-use mathlib.Core.Path.{refl, sym, ◌∙◌}
-use Rattle.index.proofs.SeekLaws.{cell_fits, Seeking, seek_start, seek_most, seek_low, seek_later, seek_next, seek_here, seek_none}
+use Prim.Native.Nat.{◌-◌}
+use Rattle.index.proofs.SeekLaws.{Seeking}
 use Rattle.index.proofs.seek.Given as goal
 
 abbrev pub invariant-loop-k : goal.invariant-loop-k

@@ -90,7 +90,7 @@ returns-then-not-mentions c =
 )
 
 pub link-requires : goal.link-requires
-link-requires c = (omega (arith, c.next_address-base.ensures, c.requires.good.0.tidy.low), (c.mention_all-mentions.ensures.0.good, can_link (decode c.args.state.now) (parts_of c.args.parts.now) c.requires.module_sound c.requires.good.0.tidy.full c.next_address-base.ensures c.survey-extent.ensures.length_is c.if-end-gt-PROGRAM_WORDS.false c.lay.ensures c.if-lay.false c.survey-extent.ensures.externals_is c.bad_arguments.ensures c.if-bad_arguments.false c.out_of_range.ensures c.if-out_of_range.false c.enter-fault.ensures.0 c.if-fault-ne-DONE.false c.mention_all-mentions.ensures.0 c.if-not-mentions.false c.requires.module_sound.few_externals))
+link-requires c = record { base_le_program_words = omega (arith, c.next_address-base.ensures, c.requires.good.0.tidy.low); good = c.mention_all-mentions.ensures.0.good; linkable = can_link (decode c.args.state.now) (parts_of c.args.parts.now) c.requires.module_sound c.requires.good.0.tidy.full c.next_address-base.ensures c.survey-extent.ensures.length_is c.if-end-gt-PROGRAM_WORDS.false c.lay.ensures c.if-lay.false c.survey-extent.ensures.externals_is c.bad_arguments.ensures c.if-bad_arguments.false c.out_of_range.ensures c.if-out_of_range.false c.enter-fault.ensures.0 c.if-fault-ne-DONE.false c.mention_all-mentions.ensures.0 c.if-not-mentions.false c.requires.module_sound.few_externals }
 
 pub set_next-requires : goal.set_next-requires
 set_next-requires c = record { good = c.link.ensures.good; next_le_program_words = c.if-end-gt-PROGRAM_WORDS.false }

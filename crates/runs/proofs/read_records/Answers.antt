@@ -1,8 +1,6 @@
 -- `runs::read_records` meets its contract: one line more in each turn.
 -- Assumes nothing.
-use Prim.Native.Nat.{◌-◌}
 use borrow.Author.Rules.{rules}
-use Rattle.runs.specs.Runs.{RecordsRead}
 use Rattle.runs.proofs.LineReadLaws.{read_none, read_more}
 use Rattle.runs.proofs.read_records.Goals as goal
 

@@ -1,7 +1,5 @@
 use Prim.Native.Nat.{◌-◌}
-use borrow.Author.Rules.{rules}
 use Rattle.runs.specs.Runs.{RecordsRead}
-use Rattle.runs.proofs.LineReadLaws.{read_none, read_more}
 use Rattle.runs.proofs.read_records.Given as goal
 
 abbrev pub invariant-loop-count : goal.invariant-loop-count

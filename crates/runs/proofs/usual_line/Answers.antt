@@ -1,7 +1,6 @@
 -- `runs::usual_line` meets its contract: each kind of record by its own function; 0 promises nothing.
 -- Assumes nothing.
 use mathlib.Core.Path.{refl}
-use borrow.Author.Rules.{rules}
 use Rattle.runs.proofs.usual_line.Goals as goal
 
 pub returns-in-CodeRecord : goal.returns-in-CodeRecord

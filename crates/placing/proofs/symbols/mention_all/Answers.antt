@@ -16,7 +16,7 @@ pub loop-i-init : goal.loop-i-init
 loop-i-init c = (omega arith, refl, c.requires.good, refl, record { long = refl; count = omega arith; positions = refl; mentioned_is = refl })
 
 pub mention-position-requires : goal.mention-position-requires
-mention-position-requires c = c.loop-i.invariant.2
+mention-position-requires c = record { good = c.loop-i.invariant.2.0; ordered = c.loop-i.invariant.2.1 }
 
 pub shape_of-order-then-position-eq-MOST_SYMBOLS : goal.shape_of-order-then-position-eq-MOST_SYMBOLS
 shape_of-order-then-position-eq-MOST_SYMBOLS c = omega (arith, c.mention-position.ensures.1.long, c.requires.good.1.long)

@@ -28,7 +28,7 @@ pub returns-then-is_placed : goal.returns-then-is_placed
 returns-then-is_placed c =
     let l = c.loop-i in
     let a = c.args in
-    record { clash_is = lay_clash a.base (code_in (parts_from a.parts.now 0)) (decode a.state.now) a.parts.now l.i (omega arith) (decode l.state) (sym c.is_IsWord.ensures ∙ c.if-is_word.true) l.invariant.4 c.address.result c.address.ensures c.is_placed.result c.is_placed.ensures c.if-is_placed.true; good = l.invariant.2; table_is = lay_table l.invariant.4; done = λ e. never refl e }
+    record { clash_is = lay_clash a.base (code_in (parts_from a.parts.now 0)) (decode a.state.now) a.parts.now l.i (omega arith) (decode l.state) (sym c.is_word.ensures ∙ c.if-is_word.true) l.invariant.4 c.address.result c.address.ensures c.is_placed.result c.is_placed.ensures c.if-is_placed.true; good = l.invariant.2; table_is = lay_table l.invariant.4; done = λ e. never refl e }
 
 pub put_plain-requires : goal.put_plain-requires
 put_plain-requires c = c.loop-i.invariant.2
@@ -37,13 +37,13 @@ pub loop-i-preserved-then-is_word : goal.loop-i-preserved-then-is_word
 loop-i-preserved-then-is_word c =
     let l = c.loop-i in
     let a = c.args in
-    (omega arith, refl, c.put_plain.ensures.good, omega (arith, c.put_plain.ensures.good.long, l.invariant.2.long, l.invariant.3), lay_put a.base (code_in (parts_from a.parts.now 0)) (decode a.state.now) a.parts.now l.i (omega arith) (decode l.state) (sym c.is_IsWord.ensures ∙ c.if-is_word.true) l.invariant.4 c.address.result c.address.ensures c.is_placed.result c.is_placed.ensures c.if-is_placed.false (decode c.put_plain.new.state) c.put_plain.ensures.is)
+    (omega arith, refl, c.put_plain.ensures.good, omega (arith, c.put_plain.ensures.good.long, l.invariant.2.long, l.invariant.3), lay_put a.base (code_in (parts_from a.parts.now 0)) (decode a.state.now) a.parts.now l.i (omega arith) (decode l.state) (sym c.is_word.ensures ∙ c.if-is_word.true) l.invariant.4 c.address.result c.address.ensures c.is_placed.result c.is_placed.ensures c.if-is_placed.false (decode c.put_plain.new.state) c.put_plain.ensures.is)
 
 pub loop-i-preserved : goal.loop-i-preserved
 loop-i-preserved c =
     let l = c.loop-i in
     let a = c.args in
-    (omega arith, refl, l.invariant.2, l.invariant.3, lay_skip a.base (code_in (parts_from a.parts.now 0)) (decode a.state.now) a.parts.now l.i (omega arith) (decode l.state) (sym c.is_IsWord.ensures ∙ c.if-is_word.false) l.invariant.4)
+    (omega arith, refl, l.invariant.2, l.invariant.3, lay_skip a.base (code_in (parts_from a.parts.now 0)) (decode a.state.now) a.parts.now l.i (omega arith) (decode l.state) (sym c.is_word.ensures ∙ c.if-is_word.false) l.invariant.4)
 
 pub shape_of-state : goal.shape_of-state
 shape_of-state c = c.loop-i.invariant.3

@@ -1,7 +1,6 @@
 -- `runs::fields::byte_end` meets its contract: spaces, and a byte within its bounds.
 -- Assumes nothing.
 use Rattle.runs.proofs.SpelledLaws.{byte_found, no_byte}
-use borrow.Author.Rules.{rules}
 use Rattle.runs.proofs.fields.byte_end.Goals as goal
 
 pub returns-then-start-i : goal.returns-then-start-i

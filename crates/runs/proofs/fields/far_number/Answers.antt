@@ -1,8 +1,6 @@
 -- `runs::fields::far_number` meets its contract: a number behind one space or more.
 -- Assumes nothing.
 use native.Mathlib.Omega.{arith}
-use borrow.Author.Tests.{not-false}
-use borrow.Author.Rules.{rules}
 use Rattle.runs.proofs.SpelledLaws.{far_number_lem, no_next}
 use Rattle.runs.proofs.fields.far_number.Goals as goal
 

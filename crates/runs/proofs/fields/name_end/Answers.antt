@@ -1,12 +1,9 @@
 -- `runs::fields::name_end` meets its contract: characters one by one, at most six; the first is no digit.
 -- Assumes nothing.
-use Prim.Native.Nat.{◌+◌, ◌-◌, ◌≤◌}
 use native.Mathlib.Omega.{arith}
 use mathlib.Core.Path.{sym, ◌∙◌}
-use borrow.Author.Tests.{not-false}
 use borrow.Author.Rules.{rules}
 use Rattle.rules.specs.Text.{is_name, is_name_character}
-use Rattle.runs.specs.Runs.{Stretch}
 use Rattle.runs.proofs.StretchLaws.{stretch_none, stretch_more, name_found, no_field}
 use Rattle.runs.proofs.fields.name_end.Goals as goal
 

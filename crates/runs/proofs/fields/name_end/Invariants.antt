@@ -1,11 +1,6 @@
 use Prim.Native.Nat.{◌+◌, ◌-◌, ◌≤◌}
-use native.Mathlib.Omega.{arith}
-use mathlib.Core.Path.{sym, ◌∙◌}
-use borrow.Author.Tests.{not-false}
-use borrow.Author.Rules.{rules}
-use Rattle.rules.specs.Text.{is_name, is_name_character}
+use Rattle.rules.specs.Text.{is_name_character}
 use Rattle.runs.specs.Runs.{Stretch}
-use Rattle.runs.proofs.StretchLaws.{stretch_none, stretch_more, name_found, no_field}
 use Rattle.runs.proofs.fields.name_end.Given as goal
 
 abbrev pub invariant-loop-n : goal.invariant-loop-n

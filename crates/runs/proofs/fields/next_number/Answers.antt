@@ -1,6 +1,5 @@
 -- `runs::fields::next_number` meets its contract: a number behind one space, or behind more.
 -- Assumes nothing.
-use borrow.Author.Rules.{rules}
 use Rattle.runs.proofs.SpelledLaws.{no_next}
 use Rattle.runs.proofs.fields.next_number.Goals as goal
 

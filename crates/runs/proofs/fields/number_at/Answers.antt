@@ -1,12 +1,9 @@
 -- `runs::fields::number_at` meets its contract: digits one by one, at most six; of six the first tells a number.
 -- Assumes nothing.
-use Prim.Native.Nat.{◌+◌, ◌-◌, ◌≤◌}
 use native.Mathlib.Omega.{arith}
 use mathlib.Core.Path.{sym, ◌∙◌}
-use borrow.Author.Tests.{not-false}
 use borrow.Author.Rules.{rules}
 use Rattle.rules.specs.Text.{is_number, is_octal}
-use Rattle.runs.specs.Runs.{Stretch}
 use Rattle.runs.proofs.StretchLaws.{stretch_none, stretch_more, number_found, no_field}
 use Rattle.runs.proofs.fields.number_at.Goals as goal
 

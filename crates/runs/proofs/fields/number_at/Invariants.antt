@@ -1,11 +1,6 @@
 use Prim.Native.Nat.{◌+◌, ◌-◌, ◌≤◌}
-use native.Mathlib.Omega.{arith}
-use mathlib.Core.Path.{sym, ◌∙◌}
-use borrow.Author.Tests.{not-false}
-use borrow.Author.Rules.{rules}
-use Rattle.rules.specs.Text.{is_number, is_octal}
+use Rattle.rules.specs.Text.{is_octal}
 use Rattle.runs.specs.Runs.{Stretch}
-use Rattle.runs.proofs.StretchLaws.{stretch_none, stretch_more, number_found, no_field}
 use Rattle.runs.proofs.fields.number_at.Given as goal
 
 abbrev pub invariant-loop-n : goal.invariant-loop-n

@@ -1,6 +1,5 @@
 -- `runs::fields::number_end` meets its contract: near the file's end nothing is told.
 -- Assumes nothing.
-use borrow.Author.Rules.{rules}
 use Rattle.rules.specs.Text.{is_number}
 use Rattle.runs.proofs.StretchLaws.{no_field}
 use Rattle.runs.proofs.fields.number_end.Goals as goal

@@ -1,8 +1,6 @@
 -- `runs::fields::numbers_end` meets its contract: one number more in each turn.
 -- Assumes nothing.
-use Prim.Native.Nat.{◌-◌, ◌≤◌}
 use borrow.Author.Rules.{rules}
-use Rattle.runs.specs.Runs.{Numbers}
 use Rattle.runs.proofs.SpelledLaws.{numbers_start, numbers_more, numbers_end_lem, no_numbers}
 use Rattle.runs.proofs.fields.numbers_end.Goals as goal
 

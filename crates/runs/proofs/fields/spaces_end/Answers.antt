@@ -1,11 +1,8 @@
 -- `runs::fields::spaces_end` meets its contract: spaces one by one.
 -- Assumes nothing.
-use Prim.Native.Nat.{◌-◌}
-use lib.ListN.{length}
 use borrow.Author.Rules.{rules}
 use borrow.Author.Tests.{eq-eqb}
 use Rattle.text.specs.FieldBounds.{is_space}
-use Rattle.runs.specs.Runs.{Stretch}
 use Rattle.runs.proofs.StretchLaws.{stretch_start, stretch_step}
 use Rattle.runs.proofs.fields.spaces_end.Goals as goal
 

@@ -1,9 +1,7 @@
 -- `runs::lines::entry` meets its contract: each field follows the one before it; 0 promises nothing.
 -- Assumes nothing.
-use native.Mathlib.Omega.{arith}
 use mathlib.Core.Path.{refl}
 use Rattle.runs.proofs.LineReadLaws.{absolute_read, relocated_read}
-use borrow.Author.Rules.{rules}
 use Rattle.runs.proofs.lines.entry.Goals as goal
 
 pub returns-then-named-start : goal.returns-then-named-start

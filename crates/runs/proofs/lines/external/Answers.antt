@@ -1,9 +1,7 @@
 -- `runs::lines::external` meets its contract: a name; 0 promises nothing.
 -- Assumes nothing.
-use native.Mathlib.Omega.{arith}
 use mathlib.Core.Path.{refl}
 use Rattle.runs.proofs.LineReadLaws.{external_read}
-use borrow.Author.Rules.{rules}
 use Rattle.runs.proofs.lines.external.Goals as goal
 
 pub returns-then-end-start : goal.returns-then-end-start

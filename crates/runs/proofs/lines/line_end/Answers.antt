@@ -1,7 +1,6 @@
 -- `runs::lines::line_end` meets its contract: the line stops behind the spaces; 0 promises nothing.
 -- Assumes nothing.
 use native.Mathlib.Omega.{arith}
-use borrow.Author.Rules.{rules}
 use Rattle.runs.proofs.lines.line_end.Goals as goal
 
 pub line_stop-requires : goal.line_stop-requires

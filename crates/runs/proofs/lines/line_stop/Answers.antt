@@ -1,8 +1,6 @@
 -- `runs::lines::line_stop` meets its contract: an LF, or a CR and an LF; 0 promises nothing.
 -- Assumes nothing.
 use mathlib.Core.Path.{refl}
-use borrow.Author.Tests.{not-false}
-use borrow.Author.Rules.{rules}
 use Rattle.runs.proofs.LineReadLaws.{stops_LF, stops_CRLF}
 use Rattle.runs.proofs.lines.line_stop.Goals as goal
 

@@ -2,9 +2,7 @@
 -- Assumes nothing.
 use native.Mathlib.Omega.{arith}
 use mathlib.Core.Path.{refl}
-use borrow.Author.Tests.{not-false}
 use Rattle.runs.proofs.LineReadLaws.{linked_read}
-use borrow.Author.Rules.{rules}
 use Rattle.runs.proofs.lines.linked_word.Goals as goal
 
 pub returns-then-not-has_byte : goal.returns-then-not-has_byte

@@ -2,7 +2,6 @@
 -- Assumes nothing.
 use native.Mathlib.Omega.{arith}
 use mathlib.Core.Path.{refl}
-use borrow.Author.Rules.{rules}
 use Rattle.runs.proofs.LineReadLaws.{near_read}
 use Rattle.runs.proofs.lines.near_word.Goals as goal
 

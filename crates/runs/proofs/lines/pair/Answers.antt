@@ -1,9 +1,7 @@
 -- `runs::lines::pair` meets its contract: one number follows the other; 0 promises nothing.
 -- Assumes nothing.
-use native.Mathlib.Omega.{arith}
 use mathlib.Core.Path.{refl}
 use Rattle.runs.proofs.LineReadLaws.{pair_read}
-use borrow.Author.Rules.{rules}
 use Rattle.runs.proofs.lines.pair.Goals as goal
 
 pub returns-then-first-start : goal.returns-then-first-start

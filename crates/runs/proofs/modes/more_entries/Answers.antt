@@ -4,7 +4,6 @@ use mathlib.Core.Path.{sym, ap, subst}
 use Rattle.rules.specs.declared.line.Expected.{Expected}
 use Rattle.runs.specs.Modes.{room_by, entries_in}
 use Rattle.runs.proofs.CaseLaws.{no_entries}
-use borrow.Author.Rules.{rules}
 use Rattle.runs.proofs.modes.more_entries.Goals as goal
 
 pub overflow_add-result : goal.overflow_add-result

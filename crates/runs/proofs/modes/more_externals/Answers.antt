@@ -4,7 +4,6 @@ use mathlib.Core.Path.{sym, ap, subst}
 use Rattle.rules.specs.declared.line.Expected.{Expected}
 use Rattle.runs.specs.Modes.{room_by, externals_in}
 use Rattle.runs.proofs.CaseLaws.{no_externals}
-use borrow.Author.Rules.{rules}
 use Rattle.runs.proofs.modes.more_externals.Goals as goal
 
 pub overflow_add-result : goal.overflow_add-result

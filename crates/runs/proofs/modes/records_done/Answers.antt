@@ -1,6 +1,5 @@
 use native.Mathlib.Omega.{arith}
 use Rattle.runs.proofs.ModeLaws.{room_most, done}
-use borrow.Author.Rules.{rules}
 use Rattle.runs.proofs.modes.records_done.Goals as goal
 
 pub overflow_sub-result : goal.overflow_sub-result

@@ -2,7 +2,6 @@ use mathlib.Core.Path.{sym, ap, ◌∙◌}
 use Rattle.rules.specs.declared.line.Expected.{Expected}
 use Rattle.runs.specs.Modes.{room_by}
 use Rattle.runs.proofs.CaseLaws.{no_room_lem}
-use borrow.Author.Rules.{rules}
 use Rattle.runs.proofs.modes.room.Goals as goal
 
 pub returns-in-CodeRecord : goal.returns-in-CodeRecord

@@ -1,4 +1,3 @@
-use native.Mathlib.Omega.{arith}
 use Rattle.soundness.specs.Checks.{header_sound}
 use borrow.Author.Tests.{le-leb, lt-leb}
 use Rattle.soundness.proofs.cells.header_sound.Goals as goal

@@ -1,4 +1,3 @@
-use borrow.Author.Rules.{rules}
 use Rattle.soundness.proofs.MetLaws.{alone_new, alone_met}
 use Rattle.soundness.proofs.cells.stands_alone.Goals as goal
 

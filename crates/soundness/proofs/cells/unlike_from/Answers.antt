@@ -4,8 +4,7 @@ use mathlib.Core.Path.{ap}
 use mathlib.Core.Bool.{not}
 use Rattle.state.proofs.ListLaws.{each_stop, each_on, each_end}
 use native.Mathlib.Omega.{arith}
-use mathlib.Core.Path.{◌≡◌, refl}
-use Prim.Native.Nat.{◌-◌}
+use mathlib.Core.Path.{refl}
 use Rattle.soundness.proofs.cells.unlike_from.Goals as goal
 
 pub loop-j-init : goal.loop-j-init

@@ -1,10 +1,5 @@
-use Rattle.soundness.specs.Checks.{unlike_at, unlike}
-use borrow.Author.Tests.{eq-eqb, ne_eqb}
-use mathlib.Core.Path.{ap}
-use mathlib.Core.Bool.{not}
-use Rattle.state.proofs.ListLaws.{each_stop, each_on, each_end}
-use native.Mathlib.Omega.{arith}
-use mathlib.Core.Path.{◌≡◌, refl}
+use Rattle.soundness.specs.Checks.{unlike}
+use mathlib.Core.Path.{◌≡◌}
 use Prim.Native.Nat.{◌-◌}
 use Rattle.soundness.proofs.cells.unlike_from.Given as goal
 

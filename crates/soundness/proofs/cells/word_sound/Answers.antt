@@ -1,4 +1,3 @@
-use borrow.Author.Rules.{rules}
 use borrow.Author.Tests.{eq-eqb, ne_eqb}
 use Rattle.soundness.specs.Checks.{word_sound}
 use Rattle.soundness.proofs.cells.word_sound.Goals as goal

@@ -1,11 +1,8 @@
 use Rattle.soundness.specs.Checks.{word_sound_at, words_sound}
-use Rattle.state.specs.Layout.{range}
-use Rattle.rules.specs.Text.{all}
 use Rattle.state.proofs.BoolLaws.{refused, passed}
 use Rattle.state.proofs.ListLaws.{each_stop, each_on, each_end}
 use native.Mathlib.Omega.{arith}
-use mathlib.Core.Path.{◌≡◌, refl}
-use Prim.Native.Nat.{◌-◌}
+use mathlib.Core.Path.{refl}
 use mathlib.Core.Bool.{not}
 use mathlib.Core.Path.{ap}
 use Rattle.soundness.proofs.cells.words_sound.Goals as goal

@@ -2,8 +2,6 @@ use Rattle.soundness.specs.Checks.{zero_at, zero_between}
 use borrow.Author.Tests.{eq-eqb, ne_eqb}
 use Rattle.state.proofs.ListLaws.{each_stop, each_on, each_end}
 use native.Mathlib.Omega.{arith}
-use mathlib.Core.Path.{◌≡◌, refl}
-use Prim.Native.Nat.{◌-◌}
 use Rattle.soundness.proofs.cells.zero_between.Goals as goal
 
 pub zeros_end-k-requires : goal.zeros_end-k-requires

@@ -1,10 +1,7 @@
 -- `soundness::cells::zeros_end` meets its contract: eight cells more in each turn.
 -- Assumes nothing.
-use Prim.Native.Nat.{◌-◌}
-use mathlib.Core.Path.{◌≡◌, refl, ◌∙◌}
+use mathlib.Core.Path.{refl, ◌∙◌}
 use borrow.Author.Rules.{rules}
-use borrow.Author.Tests.{not-false}
-use Rattle.soundness.specs.Checks.{zero_between}
 use Rattle.soundness.proofs.cells.zeros_end.Goals as goal
 
 pub loop-k-init : goal.loop-k-init

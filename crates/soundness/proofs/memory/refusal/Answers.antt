@@ -1,4 +1,3 @@
-use native.Mathlib.Omega.{arith}
 use Rattle.soundness.proofs.SoundLaws.{refusal_none, refusal_length, refusal_damaged}
 use mathlib.Core.Path.{sym, ◌∙◌}
 use Rattle.soundness.proofs.memory.refusal.Goals as goal

@@ -1,4 +1,3 @@
-use native.Mathlib.Omega.{arith}
 use Rattle.soundness.proofs.NameLaws.{packed_is}
 use Rattle.state.proofs.BoolLaws.{refused, passed}
 use mathlib.Core.Bool.{not}

@@ -1,4 +1,3 @@
-use native.Mathlib.Omega.{arith}
 use Rattle.state.proofs.HeaderLaws.{mark_is}
 use Rattle.state.proofs.header.mark.Goals as goal
 

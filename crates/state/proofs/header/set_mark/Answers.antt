@@ -1,5 +1,3 @@
-use borrow.Author.Rules.{rules}
-use native.Mathlib.Omega.{arith}
 use Rattle.state.proofs.HeaderLaws.{mark_set}
 use Rattle.state.proofs.header.set_mark.Goals as goal
 

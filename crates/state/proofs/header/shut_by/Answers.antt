@@ -1,4 +1,3 @@
-use borrow.Author.Rules.{rules}
 use borrow.Author.Tests.{eq-eqb, ne_eqb}
 use Rattle.state.proofs.HeaderLaws.{shut_is}
 use Rattle.state.proofs.header.shut_by.Goals as goal

@@ -1,10 +1,6 @@
 use Rattle.state.proofs.FreshLaws.{cleared_none, cleared_more, cleared_all}
-use Rattle.state.specs.Layout.{size, zeros}
-use lib.ListN.{length, drop, length-set}
+use lib.ListN.{length-set}
 use native.Mathlib.Omega.{arith}
-use mathlib.Core.Path.{◌≡◌}
-use mathlib.Core.List.{◌++◌}
-use Prim.Native.Nat.{◌-◌, ◌≤◌}
 use Rattle.state.proofs.memory.reset.Goals as goal
 
 pub loop-i-init : goal.loop-i-init

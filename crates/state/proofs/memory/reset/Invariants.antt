@@ -1,7 +1,5 @@
-use Rattle.state.proofs.FreshLaws.{cleared_none, cleared_more, cleared_all}
 use Rattle.state.specs.Layout.{size, zeros}
-use lib.ListN.{length, drop, length-set}
-use native.Mathlib.Omega.{arith}
+use lib.ListN.{length, drop}
 use mathlib.Core.Path.{◌≡◌}
 use mathlib.Core.List.{◌++◌}
 use Prim.Native.Nat.{◌-◌, ◌≤◌}

@@ -1,4 +1,3 @@
-use borrow.Author.Rules.{rules}
 use Rattle.state.proofs.TableLaws.{define_full, define_inside, define_behind}
 use lib.ListN.{length-set}
 use native.Mathlib.Omega.{arith}

@@ -1,4 +1,3 @@
-use native.Mathlib.Omega.{arith}
 use Rattle.state.proofs.BoolLaws.{not_not}
 use Rattle.state.proofs.TableLaws.{name_there, name_absent}
 use Rattle.rules.specs.State.{is_undefined}

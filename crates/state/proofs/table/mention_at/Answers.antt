@@ -1,5 +1,3 @@
-use borrow.Author.Rules.{rules}
-use native.Mathlib.Omega.{arith}
 use Rattle.state.proofs.TableLaws.{mention_inside, mention_full, mention_behind}
 use Rattle.state.proofs.table.mention_at.Goals as goal
 

@@ -1,4 +1,3 @@
-use borrow.Author.Rules.{rules}
 use Rattle.state.proofs.LayoutLaws.{name_is_lem}
 use Rattle.state.proofs.table.name_at.Goals as goal
 

@@ -1,10 +1,7 @@
-use Rattle.state.proofs.SymbolLaws.{undefined_here, undefined_not, undefined_end}
 use Rattle.state.specs.Layout.{symbols_from, decode}
 use Rattle.rules.specs.State.{undefined_only}
 use lib.ListN.{length, get_or}
-use native.Mathlib.Omega.{arith}
-use mathlib.Core.Path.{◌≡◌, refl}
-use mathlib.Core.Logic.{⊎_elim}
+use mathlib.Core.Path.{◌≡◌}
 use Prim.Native.Nat.{◌+◌, ◌-◌, ◌≤◌}
 use Rattle.state.proofs.table.undefined_count.Given as goal
 

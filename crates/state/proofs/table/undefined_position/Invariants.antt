@@ -1,10 +1,7 @@
-use Rattle.state.proofs.SymbolLaws.{position_of_first, position_of_later, position_past_defined, position_of_none}
 use Rattle.state.specs.Table.{undefined_position}
 use Rattle.state.specs.Layout.{symbols_from, decode}
 use lib.ListN.{get_or}
-use native.Mathlib.Omega.{arith}
-use mathlib.Core.Path.{◌≡◌, refl}
-use mathlib.Core.Logic.{⊎_elim}
+use mathlib.Core.Path.{◌≡◌}
 use Prim.Native.Nat.{◌+◌, ◌-◌, ◌≤◌}
 use Rattle.state.proofs.table.undefined_position.Given as goal
 

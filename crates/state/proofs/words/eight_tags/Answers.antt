@@ -1,6 +1,6 @@
-use Prim.Native.Nat.{◌+◌, ◌-◌, ◌≤◌}
+use Prim.Native.Nat.{◌+◌}
 use native.Mathlib.Omega.{arith}
-use Rattle.state.proofs.HighestLaws.{tag_small, Adding, adding_start, adding_step, adding_end}
+use Rattle.state.proofs.HighestLaws.{tag_small, adding_start, adding_step, adding_end}
 use Rattle.state.proofs.words.eight_tags.Goals as goal
 
 pub loop-i-init : goal.loop-i-init

@@ -1,6 +1,5 @@
-use Prim.Native.Nat.{◌+◌, ◌-◌, ◌≤◌}
-use native.Mathlib.Omega.{arith}
-use Rattle.state.proofs.HighestLaws.{tag_small, Adding, adding_start, adding_step, adding_end}
+use Prim.Native.Nat.{◌-◌, ◌≤◌}
+use Rattle.state.proofs.HighestLaws.{Adding}
 use Rattle.state.proofs.words.eight_tags.Given as goal
 
 abbrev pub invariant-loop-i : goal.invariant-loop-i

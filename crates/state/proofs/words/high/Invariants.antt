@@ -1,6 +1,4 @@
-use native.Mathlib.Omega.{arith}
 use Rattle.state.specs.Words.{HighBelow}
-use Rattle.state.proofs.HighestLaws.{high_here, high_lower, high_none}
 use Rattle.state.proofs.words.high.Given as goal
 
 abbrev pub invariant-loop-n : goal.invariant-loop-n

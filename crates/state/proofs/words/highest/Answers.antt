@@ -1,8 +1,7 @@
 use Rattle.state.proofs.HighestLaws.{highest_all, highest_here, highest_lower, highest_none, refers_yes, refers_no}
-use Rattle.state.specs.Layout.{words_below, decode}
-use Rattle.rules.specs.State.{refers_to, highest}
+use Rattle.rules.specs.State.{refers_to}
 use native.Mathlib.Omega.{arith}
-use mathlib.Core.Path.{◌≡◌, refl}
+use mathlib.Core.Path.{refl}
 use Prim.Native.Nat.{◌+◌, ◌-◌}
 use Rattle.state.proofs.words.highest.Goals as goal
 

@@ -1,8 +1,6 @@
-use Rattle.state.proofs.HighestLaws.{highest_all, highest_here, highest_lower, highest_none, refers_yes, refers_no}
 use Rattle.state.specs.Layout.{words_below, decode}
-use Rattle.rules.specs.State.{refers_to, highest}
-use native.Mathlib.Omega.{arith}
-use mathlib.Core.Path.{◌≡◌, refl}
+use Rattle.rules.specs.State.{highest}
+use mathlib.Core.Path.{◌≡◌}
 use Prim.Native.Nat.{◌+◌, ◌-◌}
 use Rattle.state.proofs.words.highest.Given as goal
 

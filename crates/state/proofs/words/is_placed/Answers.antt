@@ -1,4 +1,3 @@
-use native.Mathlib.Omega.{arith}
 use Rattle.state.proofs.WordLaws.{is_placed_at, is_placed_past}
 use mathlib.Core.Path.{sym}
 use Rattle.state.proofs.words.is_placed.Goals as goal

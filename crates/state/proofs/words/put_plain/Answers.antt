@@ -1,4 +1,3 @@
-use borrow.Author.Rules.{rules}
 use Rattle.state.proofs.WordLaws.{plain_sound, word_past, word_set}
 use Rattle.rules.specs.State.{plain}
 use lib.ListN.{length-set}

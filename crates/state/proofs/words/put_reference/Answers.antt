@@ -1,4 +1,3 @@
-use borrow.Author.Rules.{rules}
 use Rattle.state.proofs.WordLaws.{refers_sound, word_past, word_set}
 use Rattle.rules.specs.State.{refers}
 use lib.ListN.{length-set}

@@ -1,4 +1,3 @@
-use native.Mathlib.Omega.{arith}
 use Rattle.state.proofs.WordLaws.{tag_is}
 use Rattle.state.proofs.words.tag.Goals as goal
 

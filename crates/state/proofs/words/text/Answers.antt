@@ -1,4 +1,3 @@
-use native.Mathlib.Omega.{arith}
 use Rattle.state.proofs.WordLaws.{text_is}
 use Rattle.state.proofs.words.text.Goals as goal
 

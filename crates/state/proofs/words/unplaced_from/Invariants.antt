@@ -1,6 +1,4 @@
-use native.Mathlib.Omega.{arith}
 use Rattle.state.specs.Words.{HighBelow}
-use Rattle.state.proofs.HighestLaws.{below_start, below_eight}
 use Rattle.state.proofs.words.unplaced_from.Given as goal
 
 abbrev pub invariant-loop-n : goal.invariant-loop-n

@@ -1,4 +1,3 @@
-use borrow.Author.Rules.{rules}
 use Rattle.rules.specs.Reading.{header_step}
 use Rattle.steps.proofs.headers.header_step.Goals as goal
 

@@ -1,4 +1,3 @@
-use borrow.Author.Rules.{rules}
 use Rattle.rules.specs.Reading.{leave_section, library_end_step}
 use Rattle.steps.proofs.headers.library_end_step.Goals as goal
 

@@ -1,4 +1,3 @@
-use borrow.Author.Rules.{rules}
 use Rattle.rules.specs.Reading.{enter_section, library_step}
 use Rattle.steps.proofs.headers.library_step.Goals as goal
 

@@ -1,4 +1,3 @@
-use borrow.Author.Rules.{rules}
 use mathlib.Core.Path.{ap}
 use Rattle.steps.proofs.CaseLaws.{if_true, if_false}
 use Rattle.rules.specs.declared.reading.Step.TheVariants.{Next}

@@ -1,4 +1,3 @@
-use borrow.Author.Rules.{rules}
 use borrow.Author.Tests.{not-true, not-false}
 use Rattle.rules.specs.Reading.{title_step}
 use Rattle.steps.proofs.CaseLaws.{if_true}

@@ -1,4 +1,3 @@
-use borrow.Author.Rules.{rules}
 use Rattle.steps.proofs.EndLaws.{cut_in_module, cut_in_section, cut_before_record, complete}
 use Rattle.steps.proofs.lines.at_end.Goals as goal
 

@@ -1,4 +1,3 @@
-use borrow.Author.Rules.{rules}
 use mathlib.Core.Path.{ap}
 use Rattle.rules.specs.Reading.{step_of}
 use Rattle.rules.specs.declared.reading.Step.TheVariants.{Next}

@@ -1,7 +1,5 @@
-use borrow.Author.Rules.{rules}
 use borrow.Author.Tests.{eq-eqb, ne_eqb}
 use Rattle.rules.specs.Reading.{expect_records}
-use Rattle.steps.proofs.modes.with_block.Reads as with-block-reads
 use Rattle.steps.proofs.modes.expect_records.Goals as goal
 
 pub returns-then-count-eq0 : goal.returns-then-count-eq0

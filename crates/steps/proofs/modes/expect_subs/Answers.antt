@@ -1,6 +1,4 @@
-use borrow.Author.Rules.{rules}
 use Rattle.rules.specs.Reading.{expect_subs}
-use Rattle.steps.proofs.modes.with_block.Reads as with-block-reads
 use Rattle.steps.proofs.modes.expect_subs.Goals as goal
 
 pub returns : goal.returns

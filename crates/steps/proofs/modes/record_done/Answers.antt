@@ -1,10 +1,8 @@
-use borrow.Author.Rules.{rules}
 use Prim.Native.Nat.{◌-◌}
 use native.Mathlib.Omega.{arith}
 use mathlib.Core.Path.{◌≡◌}
 use borrow.Author.Tests.{le-leb, lt-leb}
 use Rattle.rules.specs.Reading.{record_done}
-use Rattle.steps.proofs.modes.with_block.Reads as with-block-reads
 use Rattle.steps.proofs.modes.record_done.Goals as goal
 
 pub returns-then-remaining-le1 : goal.returns-then-remaining-le1

@@ -1,6 +1,5 @@
 -- `steps::modes::renewed` meets its contract: what is expected stays.
 -- Assumes nothing.
-use borrow.Author.Rules.{rules}
 use Rattle.rules.specs.Reading.{expect}
 use Rattle.steps.proofs.modes.renewed.Goals as goal
 

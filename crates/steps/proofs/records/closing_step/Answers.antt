@@ -1,4 +1,3 @@
-use borrow.Author.Rules.{rules}
 use borrow.Author.Tests.{eq-eqb, ne_eqb}
 use Rattle.rules.specs.Reading.{leave_module, closing_step}
 use Rattle.steps.proofs.records.closing_step.Goals as goal

@@ -1,4 +1,3 @@
-use borrow.Author.Rules.{rules}
 use mathlib.Core.Path.{refl}
 use Rattle.rules.specs.Reading.{count_external}
 use Rattle.steps.proofs.records.count_external.Goals as goal

@@ -1,6 +1,5 @@
 -- `steps::stops::fault_number` meets its contract: by the kind.
 -- Assumes nothing.
-use borrow.Author.Rules.{rules}
 use Rattle.rules.specs.Faults.{fault_number}
 use Rattle.steps.proofs.stops.fault_number.Goals as goal
 

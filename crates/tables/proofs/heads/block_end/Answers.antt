@@ -1,6 +1,5 @@
 use borrow.Author.Tests.{eq-eqb, ne_eqb}
 use Rattle.tables.specs.Heads.{block_end}
-use borrow.Author.Rules.{rules}
 use Rattle.tables.proofs.heads.block_end.Goals as goal
 
 pub returns-then-head-ne-BLOCK : goal.returns-then-head-ne-BLOCK

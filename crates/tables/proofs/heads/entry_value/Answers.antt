@@ -1,8 +1,6 @@
 -- src/heads.rt:37:8
-use borrow.Author.Rules.{rules}
 use mathlib.Core.Path.{sym, ◌∙◌}
 use Rattle.tables.specs.Heads.{value_of}
-use Rattle.tables.proofs.heads.is_relocated.Reads as is-relocated-reads
 use Rattle.tables.proofs.heads.entry_value.Goals as goal
 
 pub returns-then-is_relocated : goal.returns-then-is_relocated

@@ -1,7 +1,5 @@
 -- src/heads.rt:53:8
-use borrow.Author.Rules.{rules}
 use mathlib.Core.Path.{sym, ◌∙◌}
-use Rattle.tables.proofs.heads.is_external.Reads as is-external-reads
 use Rattle.tables.proofs.heads.external_in.Goals as goal
 
 pub returns-then-is_external : goal.returns-then-is_external

@@ -1,4 +1,3 @@
-use borrow.Author.Rules.{rules}
 use Rattle.tables.specs.Tables.{part_head}
 use Rattle.tables.proofs.parts.entry_head.Goals as goal
 

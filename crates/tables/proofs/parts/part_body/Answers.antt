@@ -1,4 +1,3 @@
-use borrow.Author.Rules.{rules}
 use Rattle.tables.specs.Tables.{part_body}
 use Rattle.tables.proofs.parts.part_body.Goals as goal
 

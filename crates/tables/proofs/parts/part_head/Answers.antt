@@ -1,8 +1,5 @@
-use borrow.Author.Rules.{rules}
 use mathlib.Core.Path.{◌∙◌, sym, ap}
 use Rattle.tables.specs.Tables.{part_head}
-use Rattle.tables.proofs.parts.entry_head.Reads as entry-head-reads
-use Rattle.tables.proofs.parts.word_head.Reads as word-head-reads
 use Rattle.tables.proofs.parts.part_head.Goals as goal
 
 pub returns-in-EntryPart : goal.returns-in-EntryPart

@@ -1,5 +1,4 @@
 use Prim.Native.Nat.{◌%◌}
-use borrow.Author.Rules.{rules}
 use borrow.Author.Tests.{ne_eqb}
 use Rattle.tables.specs.Tables.{part_of}
 use Rattle.tables.proofs.parts.part_of.Goals as goal

@@ -1,5 +1,3 @@
-use borrow.Author.Rules.{rules}
-use Rattle.tables.specs.Tables.{word_head}
 use Rattle.tables.proofs.parts.word_head.Goals as goal
 
 pub returns-in-Plain : goal.returns-in-Plain

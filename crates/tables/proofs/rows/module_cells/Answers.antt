@@ -1,12 +1,8 @@
 -- src/rows.rt:97:25
 use Prim.Native.Nat.{◌*◌}
 use native.Mathlib.Omega.{arith}
-use borrow.Author.Rules.{rules}
 use Rattle.tables.specs.Tables.{start_in, end_in}
 use Rattle.tables.proofs.TablesLaws.{range_cut}
-use Rattle.tables.proofs.rows.least.Reads as least-reads
-use Rattle.tables.proofs.rows.row_end.Reads as row-end-reads
-use Rattle.tables.proofs.rows.row_start.Reads as row-start-reads
 use Rattle.tables.proofs.rows.module_cells.Goals as goal
 
 pub overflow_mul-row_end : goal.overflow_mul-row_end

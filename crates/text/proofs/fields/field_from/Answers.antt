@@ -1,6 +1,5 @@
 -- `text::fields::field_from` meets its contract: the part from the start to the position that was found is the next field.
 -- Assumes nothing.
-use borrow.Author.Rules.{rules}
 use mathlib.Core.Path.{refl, sym}
 use Rattle.text.specs.Scan.{part}
 use Rattle.text.proofs.FieldLaws.{lends_field}

@@ -1,10 +1,9 @@
 -- `text::fields::field_start` meets its contract: a scan over spaces.
 -- Assumes nothing.
-use Prim.Native.Nat.{◌-◌}
 use borrow.Author.Rules.{rules}
 use borrow.Author.Tests.{eq-eqb, ne_eqb}
 use Rattle.text.specs.FieldBounds.{is_space, field_start}
-use Rattle.text.proofs.ScanLaws.{Scanned, scan_start, scan_step, scan_stop, scan_end}
+use Rattle.text.proofs.ScanLaws.{scan_start, scan_step, scan_stop, scan_end}
 use Rattle.text.proofs.fields.field_start.Goals as goal
 
 pub loop-i-init : goal.loop-i-init

@@ -1,8 +1,6 @@
 use Prim.Native.Nat.{◌-◌}
-use borrow.Author.Rules.{rules}
-use borrow.Author.Tests.{eq-eqb, ne_eqb}
-use Rattle.text.specs.FieldBounds.{is_space, field_start}
-use Rattle.text.proofs.ScanLaws.{Scanned, scan_start, scan_step, scan_stop, scan_end}
+use Rattle.text.specs.FieldBounds.{is_space}
+use Rattle.text.proofs.ScanLaws.{Scanned}
 use Rattle.text.proofs.fields.field_start.Given as goal
 
 abbrev pub invariant-loop-i : goal.invariant-loop-i

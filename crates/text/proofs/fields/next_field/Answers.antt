@@ -1,6 +1,5 @@
 -- `text::fields::next_field` meets its contract: the part between the two positions that were found is the next field.
 -- Assumes nothing.
-use borrow.Author.Rules.{rules}
 use mathlib.Core.Path.{refl}
 use Rattle.text.specs.Scan.{part}
 use Rattle.text.proofs.FieldLaws.{lends_field}

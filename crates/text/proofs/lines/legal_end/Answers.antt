@@ -1,9 +1,8 @@
 -- `text::lines::legal_end` meets its contract: a scan over legal bytes, of which the two tests tell.
 -- Assumes nothing.
-use Prim.Native.Nat.{◌-◌}
 use borrow.Author.Rules.{rules}
 use Rattle.text.specs.LineEnds.{is_legal, legal_end}
-use Rattle.text.proofs.ScanLaws.{Scanned, scan_start, scan_step, scan_stop, scan_end, between_yes, between_low, between_high}
+use Rattle.text.proofs.ScanLaws.{scan_start, scan_step, scan_stop, scan_end, between_yes, between_low, between_high}
 use Rattle.text.proofs.lines.legal_end.Goals as goal
 
 pub loop-i-init : goal.loop-i-init

@@ -1,10 +1,8 @@
 -- `text::markers::same_text` meets its contract: at each position what is left decides.
 -- Assumes nothing.
-use Prim.Native.Nat.{◌-◌}
 use mathlib.Core.Path.{sym}
-use lib.ListN.{length}
 use borrow.Author.Rules.{rules}
-use Rattle.text.proofs.MarkerLaws.{Compared, same_length, compare_start, compare_step, compare_stop, compare_end}
+use Rattle.text.proofs.MarkerLaws.{same_length, compare_start, compare_step, compare_stop, compare_end}
 use Rattle.text.proofs.markers.same_text.Goals as goal
 
 pub returns-then-a-b : goal.returns-then-a-b

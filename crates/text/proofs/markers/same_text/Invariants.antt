@@ -1,8 +1,6 @@
 use Prim.Native.Nat.{◌-◌}
-use mathlib.Core.Path.{sym}
 use lib.ListN.{length}
-use borrow.Author.Rules.{rules}
-use Rattle.text.proofs.MarkerLaws.{Compared, same_length, compare_start, compare_step, compare_stop, compare_end}
+use Rattle.text.proofs.MarkerLaws.{Compared}
 use Rattle.text.proofs.markers.same_text.Given as goal
 
 abbrev pub invariant-loop-i : goal.invariant-loop-i

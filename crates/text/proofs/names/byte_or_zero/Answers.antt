@@ -1,6 +1,5 @@
 -- `text::names::byte_or_zero` meets its contract: an element of the slice is a byte, and past its end is 0.
 -- Assumes nothing.
-use borrow.Author.Rules.{rules}
 use native.Mathlib.Omega.{arith}
 use mathlib.Core.Path.{refl, sym}
 use lib.ListN.{get_or-eq_default}

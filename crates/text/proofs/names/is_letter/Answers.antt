@@ -1,6 +1,5 @@
 -- `text::names::is_letter` meets its contract: A is 65 and Z is 90.
 -- Assumes nothing.
-use borrow.Author.Rules.{rules}
 use Rattle.text.proofs.names.is_letter.Goals as goal
 
 pub returns : goal.returns

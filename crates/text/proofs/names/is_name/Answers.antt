@@ -1,10 +1,8 @@
 -- `text::names::is_name` meets its contract: at each character what is left decides.
 -- Assumes nothing.
-use Prim.Native.Nat.{◌-◌}
 use mathlib.Core.Path.{sym, ◌∙◌}
 use borrow.Author.Rules.{rules}
-use borrow.Author.Tests.{not-true, not-false}
-use Rattle.text.proofs.NameLaws.{Characters, name_short, name_long, name_first, characters_start, characters_bad, characters_step, characters_end}
+use Rattle.text.proofs.NameLaws.{name_short, name_long, name_first, characters_start, characters_bad, characters_step, characters_end}
 use Rattle.text.proofs.names.is_name.Goals as goal
 
 pub returns-then-n-eq0 : goal.returns-then-n-eq0

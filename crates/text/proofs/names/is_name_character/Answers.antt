@@ -1,6 +1,5 @@
 -- `text::names::is_name_character` meets its contract: by where the byte stands.
 -- Assumes nothing.
-use borrow.Author.Rules.{rules}
 use mathlib.Core.Path.{sym, ◌∙◌}
 use Rattle.text.proofs.NameLaws.{letter, digit, dollar, dot}
 use Rattle.text.proofs.names.is_name_character.Goals as goal

@@ -1,6 +1,5 @@
 -- `text::names::pack_name` meets its contract: six bytes, each behind the ones before.
 -- Assumes nothing.
-use borrow.Author.Rules.{rules}
 use Rattle.rules.specs.Text.{pack_name}
 use Rattle.text.proofs.names.pack_name.Goals as goal
 

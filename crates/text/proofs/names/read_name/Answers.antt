@@ -1,8 +1,6 @@
 -- `text::names::read_name` meets its contract: by whether the field is a name.
 -- Assumes nothing.
-use borrow.Author.Rules.{rules}
 use mathlib.Core.Path.{sym, ap, ◌∙◌}
-use borrow.Author.Tests.{not-true, not-false}
 use mathlib.Core.Option.{some}
 use Rattle.text.proofs.NameLaws.{no_name, a_name}
 use Rattle.text.proofs.names.read_name.Goals as goal

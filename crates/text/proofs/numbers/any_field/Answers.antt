@@ -1,7 +1,6 @@
 -- `text::numbers::any_field` meets its contract: the field's bytes are what `next_field` hands back.
 -- Assumes nothing.
 use Prim.Native.Nat.{ℕ, ◌+◌}
-use borrow.Author.Rules.{rules}
 use mathlib.Core.List.{List}
 use mathlib.Core.Path.{ap, ◌∙◌}
 use lib.ListN.{length}

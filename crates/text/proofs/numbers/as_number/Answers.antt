@@ -1,6 +1,5 @@
 -- `text::numbers::as_number` meets its contract.
 -- Assumes nothing.
-use borrow.Author.Rules.{rules}
 use borrow.Author.Tests.{le-leb, lt-leb}
 use Rattle.text.proofs.numbers.as_number.Goals as goal
 

@@ -1,10 +1,9 @@
 -- `text::numbers::digits` meets its contract: at each digit what is left decides. Six digits fit a u32.
 -- Assumes nothing.
-use Prim.Native.Nat.{◌-◌}
 use native.Mathlib.Omega.{arith}
 use borrow.Author.Rules.{rules}
 use Rattle.text.proofs.ScanLaws.{between_low, between_high}
-use Rattle.text.proofs.NumberLaws.{Run, run_start, run_room, run_step, run_end}
+use Rattle.text.proofs.NumberLaws.{run_start, run_room, run_step, run_end}
 use Rattle.text.proofs.numbers.digits.Goals as goal
 
 pub loop-i-init : goal.loop-i-init

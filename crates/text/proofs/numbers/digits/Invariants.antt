@@ -1,8 +1,5 @@
 use Prim.Native.Nat.{◌-◌}
-use native.Mathlib.Omega.{arith}
-use borrow.Author.Rules.{rules}
-use Rattle.text.proofs.ScanLaws.{between_low, between_high}
-use Rattle.text.proofs.NumberLaws.{Run, run_start, run_room, run_step, run_end}
+use Rattle.text.proofs.NumberLaws.{Run}
 use Rattle.text.proofs.numbers.digits.Given as goal
 
 abbrev pub invariant-loop-i : goal.invariant-loop-i

@@ -1,6 +1,5 @@
 -- `text::numbers::field_number` meets its contract: digits with a field's end behind them are the field.
 -- Assumes nothing.
-use borrow.Author.Rules.{rules}
 use Rattle.text.proofs.NumberLaws.{line_ends, space_ends}
 use Rattle.text.proofs.numbers.field_number.Goals as goal
 

@@ -1,7 +1,6 @@
 -- `text::numbers::read_number` meets its contract: the field is read whole, or there is a law for what breaks it.
 -- Assumes nothing.
 use mathlib.Core.Path.{◌∙◌}
-use borrow.Author.Rules.{rules}
 use Rattle.text.proofs.NumberLaws.{number_short, number_long, number_broken, number_whole}
 use Rattle.text.proofs.numbers.read_number.Goals as goal
 

@@ -1,12 +1,11 @@
 -- `text::scan::find_byte` meets its contract: a scan over all but one byte.
 -- Assumes nothing.
-use Prim.Native.Nat.{◌-◌}
 use mathlib.Core.Path.{ap}
 use mathlib.Core.Bool.{not}
 use borrow.Author.Rules.{rules}
 use borrow.Author.Tests.{eq-eqb, ne_eqb}
 use Rattle.text.specs.Scan.{is_not}
-use Rattle.text.proofs.ScanLaws.{Scanned, scan_start, scan_step, scan_stop, scan_end}
+use Rattle.text.proofs.ScanLaws.{scan_start, scan_step, scan_stop, scan_end}
 use Rattle.text.proofs.scan.find_byte.Goals as goal
 
 pub loop-i-init : goal.loop-i-init

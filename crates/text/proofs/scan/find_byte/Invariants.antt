@@ -1,10 +1,6 @@
 use Prim.Native.Nat.{◌-◌}
-use mathlib.Core.Path.{ap}
-use mathlib.Core.Bool.{not}
-use borrow.Author.Rules.{rules}
-use borrow.Author.Tests.{eq-eqb, ne_eqb}
 use Rattle.text.specs.Scan.{is_not}
-use Rattle.text.proofs.ScanLaws.{Scanned, scan_start, scan_step, scan_stop, scan_end}
+use Rattle.text.proofs.ScanLaws.{Scanned}
 use Rattle.text.proofs.scan.find_byte.Given as goal
 
 abbrev pub invariant-loop-i : goal.invariant-loop-i
