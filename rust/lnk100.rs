@@ -3,7 +3,7 @@
 //!
 //! What each call promises stands in include/lnk100.h. `scripts/declarations.sh`, with which the gate begins, holds the declarations and
 //! constants here, as those there, to the Rattle source. `Linker::load` needs 340 KB of stack, `Feed::close` 410 KB, a write to a `Feed`
-//! 75 KB, each other call 9 KB.
+//! 75 KB, each other call 9 KB (measured with an older kit: docs/PERFORMANCE.md).
 #![allow(dead_code)]
 
 use std::io::{self, Write};
