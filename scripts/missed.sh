@@ -52,7 +52,7 @@ for name; do
   if grep -q '^logic=not-proved' "$copy/said" && ! grep -q '^rt: the library .* did not build' "$copy/said"; then
     echo "missed: $name, by $crate at $(grep -m 1 -oE '(src|specs|proofs)/[^ ]*:[0-9]+:[0-9]+: (error|it is not proved).*' "$copy/said" | cut -c1-150 || true)"
   else
-    echo "missed: NOT $name: $(grep -m 1 -E '^(rt: the library|logic=)' "$copy/said" || tail -n 1 "$copy/said")"
+    echo "missed: NOT $name: $(grep -m 1 '^rt: the library' "$copy/said" || grep -oE '^logic=[a-z-]*' "$copy/said" | tail -n 1 | grep . || tail -n 1 "$copy/said")"
     failed=$((failed + 1))
   fi
 done
