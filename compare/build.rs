@@ -48,7 +48,7 @@ fn link_library(root: &Path) {
     };
     let archive = folder.join("liblinker.a");
     if !archive.exists() {
-        panic!("{} does not exist: run 'rt staticlib linker', or set LNK100_LIB", archive.display());
+        panic!("{} does not exist: run 'scripts/build.sh linker', or set LNK100_LIB", archive.display());
     }
     println!("cargo:rerun-if-changed={}", archive.display());
     println!("cargo:rustc-env=LNK100_ARCHIVE={}", archive.display());

@@ -1,6 +1,6 @@
 /* lnk100.h: the proved linker's calls, for C and C++. docs/MANUAL.md has the files, the answers and the image.
  *
- *     rt staticlib linker                                            proves and writes the library, for x86-64 Linux
+ *     scripts/build.sh linker                                        proves and writes the library, for x86-64 Linux
  *     cc -Iinclude examples/link.c target/staticlib/liblinker.a      a whole program over it
  *
  * A link is: lnk100_reset, lnk100_load for each file in order, lnk100_end. For a file that comes in pieces, off a slow reader,
@@ -14,7 +14,8 @@
  *     same link, and one of feed memory the same file, so both may be saved and taken back.
  *   - The memories lent to one call must not overlap, and nobody may write them while it runs. A pointer may be null where its length
  *     is 0. Calls on different memory may run at the same time.
- *   - lnk100_load needs 340 KB of stack, lnk100_close 410 KB, lnk100_feed 75 KB, each other call 9 KB.
+ *   - lnk100_load needs 340 KB of stack, lnk100_close 410 KB, lnk100_feed 75 KB, each other call 9 KB (rounded up from what was
+ *     measured with an older kit: docs/PERFORMANCE.md).
  *
  * Answers. `number` is 0 (LNK100_DONE) or tells why the call was refused. In a refused answer every field but `number`, `line` and
  * `column` is 0: test `number` first. `line` is the file's line, from 1, where lnk100_load or lnk100_close is refused by 6 to 14 or 17

@@ -1,9 +1,9 @@
-//! A safe wrapper of the proved linker's calls, over `target/staticlib/liblinker.a` (`rt staticlib linker`). It owns the memory that
+//! A safe wrapper of the proved linker's calls, over `target/staticlib/liblinker.a` (`scripts/build.sh linker`). It owns the memory that
 //! the calls are lent and holds no linking logic. `examples/link.rs` and `examples/feed.rs` are whole programs.
 //!
 //! What each call promises stands in include/lnk100.h. `scripts/declarations.sh`, with which the gate begins, holds the declarations and
 //! constants here, as those there, to the Rattle source. `Linker::load` needs 340 KB of stack, `Feed::close` 410 KB, a write to a `Feed`
-//! 75 KB, each other call 9 KB.
+//! 75 KB, each other call 9 KB (measured with an older kit: docs/PERFORMANCE.md).
 #![allow(dead_code)]
 
 use std::io::{self, Write};

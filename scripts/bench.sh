@@ -1,5 +1,5 @@
 #!/usr/bin/env bash
-# Times the verified library (rt staticlib linker) beside the Rust linker of compare/ and the floor.
+# Times the verified library (scripts/build.sh linker) beside the Rust linker of compare/ and the floor.
 #
 #   scripts/bench.sh [RUNS]
 #   scripts/bench.sh --feeds [RUNS [ROW]]    the table of loads in pieces alone, or one of its rows, which count from 0

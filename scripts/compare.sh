@@ -1,5 +1,5 @@
 #!/usr/bin/env bash
-# Compares the verified library (rt staticlib linker) with the Rust linker of compare/, call by call.
+# Compares the verified library (scripts/build.sh linker) with the Rust linker of compare/, call by call.
 #
 #   scripts/compare.sh                  the short run: a minute of cases, which must reach every answer and many rounds
 #   scripts/compare.sh CASES SEED ...   any other run; see the arguments of compare/src/bin/differ.rs

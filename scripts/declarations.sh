@@ -1,6 +1,7 @@
 #!/usr/bin/env bash
 # Holds the declarations of include/lnk100.h and rust/lnk100.rs to the Rattle source: the answers field by field, the calls parameter
-# by parameter, and the constants. It compares texts and compiles nothing. Each difference is a line, and then the status is 1.
+# by parameter, and the constants. And the exports, crate linker_c, to the library's calls, crate linker: each has the other's parameters,
+# answer and clauses. It compares texts and compiles nothing. Each difference is a line, and then the status is 1.
 #
 #   scripts/declarations.sh
 #
@@ -22,6 +23,7 @@ answers=crates/rules/src/answer.rt
 names=crates/rules/specs/Answers.antt
 limits=crates/rules/src/limits.rt
 calls=crates/linker/src/lib.rt
+exports=crates/linker_c/src/lib.rt
 image=crates/image/src/lib.rt
 
 # A file of C, Rust or Rattle without its comments, line by line.
@@ -41,16 +43,29 @@ uncommented() { # FILE
 }
 
 # The words and signs of standard input on one line, with one space between any two.
-spaced() { grep -aoE '[A-Za-z0-9_]+|"[^"]*"|->|::|[^[:space:]]' | tr '\n' ' '; }
+spaced() { grep -aoE '[A-Za-z0-9_]+|"[^"]*"|->|::|'$'[\x80-\xff]+''|[^[:space:]]' | tr '\n' ' '; }
 
 text() { uncommented "$1" | spaced; } # FILE
+
+# The names that a file uses, a line for each: use a::{b, c} is a::b and a::c. The path of a `ghost use` has dots.
+used() { # FILE WORD: use, or ghost use
+  uncommented "$1" | tr -s '[:space:]' ' ' | sed 's/;/;\n/g; s/\] /]\n/g' | sed -nE "s/^ ?(pub )?$2 (.*);$/\2/p" |
+    awk '
+      !/\{/ { gsub(/ /, ""); print; next }
+      {
+        at = index($0, "{")
+        path = substr($0, 1, at - 1); gsub(/ /, "", path)
+        n = split(substr($0, at + 1, length($0) - at - 1), name, /, ?/)
+        for (i = 1; i <= n; i++) { gsub(/^ | $/, "", name[i]); if (name[i] != "") print path name[i] }
+      }'
+}
 
 # Lines of a list as they are printed: no comma at the end of a list, and spaces where Rust has them.
 tidy() { sed -E 's/ ,( \))/\1/g; s/[ ,]+$//; s/ ([,:)])/\1/g; s/([(*]) /\1/g'; }
 
 # The structs of a text of Rattle or Rust.
 structs() {
-  grep -oE '# \[ repr \( C \) \] [^}]*\}' |
+  grep -oE '# \[ repr \( C \) \] [^}]*\}' | sed -E 's/# \[ derive \([^]]*\) \] //g' |
     sed -E 's/^# \[ repr \( C \) \] pub struct ([A-Za-z]+) \{ (.*)\}$/#[repr(C)] struct \1 = \2/; s/Answer =/ =/; s/pub //g' | tidy
 }
 
@@ -60,7 +75,7 @@ value() { # FILE NAME
   local words word from sum=
   words=$(text "$1" | grep -oE "const $2 : [a-z0-9]+ = [^;]*" | sed 's/.* = //; s/ :: /::/g')
   if [ -z "$words" ]; then
-    from=$(text "$1" | grep -oE "use [a-z_: ]+ :: $2 ;" | sed 's/^use //; s/ ;$//; s/ :: /::/g')
+    from=$(used "$1" use | grep -E "::$2$")
     [ -n "$from" ] || { echo "$1: no constant $2" >&2; return 1; }
     value_at "$from"
     return
@@ -86,16 +101,16 @@ value_at() { # PATH
 
 # The calls of a text of Rattle. To C a slice is a pointer and a length.
 rattle_calls() {
-  grep -oE '(# \[ no_mangle \] pub )?extern "C" fn [^{]*' |
+  grep -oE '(# \[ unsafe \( no_mangle \) \] pub )?extern "C" fn [^{]*' |
     sed -E '
       s/ ((requires|ensures) .*)?$//
-      s/^# \[ no_mangle \] pub (extern "C" fn [a-z0-9_]+) (\(.*\) -> [A-Za-z]+)$/\1 = \2/
+      s/^# \[ unsafe \( no_mangle \) \] pub (extern "C" fn [a-z0-9_]+) (\(.*\) -> [A-Za-z]+)$/\1 = \2/
       s/([a-z0-9_]+) : & mut \[ ([a-z0-9]+) \]/\1 : * mut \2 , \1_len : usize/g
       s/([a-z0-9_]+) : & \[ ([a-z0-9]+) \]/\1 : * const \2 , \1_len : usize/g
       s/Answer$//' | tidy
 }
 
-# The lengths of lent memory, which are constants of the calls' crate, and what else a caller has to know.
+# The lengths of lent memory, which are constants of the library's crate, and what else a caller has to know.
 rattle_constants() {
   local name
   for name in $(text $calls | grep -oE 'pub const [A-Z_]+' | sed 's/.* //'); do
@@ -111,8 +126,8 @@ rattle_constants() {
 rattle_names() {
   awk '
     { sub(/--.*/, "") }
-    /^[A-Z-]+ = [0-9]+ *$/ { number[$1] = $3 }
-    match($0, /answer [A-Z-]+ ".*"/) {
+    /^[A-Z_]+ = [0-9]+ *$/ { number[$1] = $3 }
+    match($0, /answer [A-Z_]+ ".*"/) {
       split(substr($0, RSTART, RLENGTH), part, "\"")
       split(part[1], word, " ")
       print "name " number[word[2]] " = " part[2]
@@ -121,7 +136,7 @@ rattle_names() {
 
 in_rattle() {
   text $answers | structs
-  text $calls | rattle_calls
+  text $exports | rattle_calls
   rattle_constants
   text $answers | grep -oE 'pub const [^;]*' | sed -E 's/^pub const ([A-Z_]+) : u64 = ([0-9]+) $/number \1 = \2/'
   rattle_names
@@ -186,16 +201,27 @@ differences() { # FILE KIND: the kind of lines that the file does not have
   ' <(grep -v "^$2 " <<<"$rattle") -
 }
 
+# The functions of a file of Rattle with all that stands ahead of their bodies, and the names that its clauses use. A function whose
+# clauses have another form than 'WORD NAME { .. }', with no braces inside, has a line of its own that says so.
+promised() { # FILE
+  local body form='fn [a-z0-9_]+ \([^)]*\) -> [A-Za-z]+( (requires|ensures)\*?( [a-z_]+)? \{[^{}]*\})* \{'
+  body=$(text "$1")
+  grep -oE "$form" <<<"$body" | sed 's/ {$//'
+  sed -E "s/$form//g" <<<"$body" | grep -oE '\bfn [a-z0-9_]+' | sed "s,$,: its clauses in $1 have a form that scripts/declarations.sh does not know,"
+  used "$1" 'ghost use' | sed 's/^/ghost use /'
+}
+
 rattle=$(in_rattle)
 count() { grep -cE "^($1)" <<<"$rattle"; } # KINDS
 for kind in '#' extern const number name; do
   [ "$(count "$kind")" -gt 0 ] || { echo "declarations: the Rattle source gives no line that begins with $kind"; exit 1; }
 done
+apart=$(diff <(promised $calls | sort) <(promised $exports | sort) | sed -nE "s,^< ,only $calls has: ,p; s,^> ,only $exports has: ,p")
 in_header=$(in_c | differences $header name) || exit
 in_wrapper=$(in_rust | differences $wrapper number) || exit
-if [ -n "$in_header$in_wrapper" ]; then
-  printf '%s\n' "$in_header" "$in_wrapper" | grep .
+if [ -n "$apart$in_header$in_wrapper" ]; then
+  printf '%s\n' "$apart" "$in_header" "$in_wrapper" | grep .
   exit 1
 fi
 echo "declarations: $header and $wrapper agree with the Rattle source:" \
-  "$(count '#') answers, $(count extern) calls, $(count 'const|number') constants, $(count name) names"
+  "$(count '#') answers, $(count extern) calls, $(count 'const|number') constants, $(count name) names; and the exports with the library"

@@ -6,7 +6,7 @@
 set -eu
 cd "$(dirname "$0")/.."
 mkdir -p target/examples
-rt staticlib linker > target/examples/log 2>&1 || { cat target/examples/log; exit 1; }
+scripts/build.sh linker
 for each in link feed; do
     gcc -std=c11 -Wall -Wextra -Werror -O2 -Iinclude "examples/$each.c" target/staticlib/liblinker.a -o "target/examples/${each}_c"
     rustc --edition 2021 -D warnings -O "examples/$each.rs" -o "target/examples/${each}_rust" -C link-arg=target/staticlib/liblinker.a

@@ -17,7 +17,7 @@ used_by() {
     used_by "$crate"
   done
 }
-crates=$({ echo linker; used_by linker; } | sort -u)
+crates=$({ echo linker_c; echo linker; used_by linker; } | sort -u)
 
 # Where a name of the table is read: crate, function, what reads it. Crate state holds the layout, and tests of soundness come ahead
 # of a call's own work; the other crates have no cell of the state by its number.

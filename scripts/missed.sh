@@ -2,7 +2,7 @@
 # Drops facts from contracts and statements, one at a time, to see that something misses each: the crates below the one that a drop
 # names must still be proved, and that crate must not be. A fact that nothing misses could be lost without a word from the gate.
 #
-#   scripts/missed.sh [NAME ...]    the drops missed/NAME.drop; all if none is named, in some fifteen minutes
+#   scripts/missed.sh [NAME ...]    the drops missed/NAME.drop; all if none is named
 #
 # A drop says in its first line what is dropped, then
 #   missed by: CRATE
@@ -15,7 +15,6 @@ cd "$(dirname "$0")/.."
 [ $# -gt 0 ] || set -- $(basename -s .drop -a missed/*.drop)
 copy=$(mktemp -d)
 trap 'rm -rf "$copy"' EXIT
-[ ! -d target ] || cp -r target "$copy"
 
 # Changes one file; a text that does not stand there is an error.
 change() { # FILE DROP OLD NEW: DROP or OLD is empty
@@ -46,13 +45,14 @@ apply() { # DROP
 failed=0
 for name; do
   rm -rf "$copy/crates"
-  cp -r crates crates.txt "$copy"
+  tar --exclude='crates/*/out' -cf - crates crates.txt | tar -C "$copy" -xf -
   crate=$(apply "missed/$name.drop") || { echo "$crate"; exit 1; }
-  (cd "$copy" && rt check "$crate") > "$copy/said" 2>&1 || true
-  if grep -qx "rt: FAILED: $crate" "$copy/said"; then
-    echo "missed: $name, by $crate at $(grep -m 1 -oE 'crates/[^ ]*: error: `[^`]*`' "$copy/said" || echo 'a proof')"
+  (cd "$copy/crates/$crate" && rt check) > "$copy/said" 2>&1 || true
+  # rt checks the crates below it first, and says so where one of them is not proved
+  if grep -q '^logic=not-proved' "$copy/said" && ! grep -q '^rt: the library .* did not build' "$copy/said"; then
+    echo "missed: $name, by $crate at $(grep -m 1 -oE '(src|specs|proofs)/[^ ]*:[0-9]+:[0-9]+: (error|it is not proved).*' "$copy/said" | cut -c1-150 || true)"
   else
-    echo "missed: NOT $name: $(tail -n 1 "$copy/said")"
+    echo "missed: NOT $name: $(grep -m 1 '^rt: the library' "$copy/said" || grep -oE '^logic=[a-z-]*' "$copy/said" | tail -n 1 | grep . || tail -n 1 "$copy/said")"
     failed=$((failed + 1))
   fi
 done

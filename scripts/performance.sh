@@ -7,7 +7,7 @@ set -eu
 cd "$(dirname "$0")/.."
 page=docs/PERFORMANCE.md
 mkdir -p target/performance
-rt staticlib linker > target/performance/log 2>&1 || { cat target/performance/log; exit 1; }
+scripts/build.sh linker
 scripts/bench.sh "$@" > target/performance/bench
 scripts/profile.sh --crates > target/performance/crates
 {

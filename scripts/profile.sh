@@ -6,9 +6,9 @@
 #   scripts/profile.sh ROW ...    these rows
 #   scripts/profile.sh --crates   all rows in one Markdown table, by crate
 #
-# As built, nearly everything is inlined into the calls. So the LLVM module that `rt staticlib` hands to clang is compiled once
-# more, at the same -O3, with the functions of KEPT left out of line; that is about a tenth more instructions. The kit's clang is
-# watched for the module through a folder of links to the kit. memset and memcpy count an instruction a byte (`rep stosb`).
+# As built, nearly everything is inlined into the calls. So the LLVM module that `rt lib` hands to clang is compiled once
+# more, with the same words, with the functions of KEPT left out of line; that is about a tenth more instructions. The kit's clang is
+# watched for the module (scripts/watched-kit.sh). memset and memcpy count an instruction a byte (`rep stosb`).
 set -eu
 cd "$(dirname "$0")/.."
 KEPT='cells::(clear|copy)|soundness::memory::refusal|soundness::cells::(names_differ|symbols_sound|words_sound|zero_between)
@@ -18,34 +18,26 @@ KEPT='cells::(clear|copy)|soundness::memory::refusal|soundness::cells::(names_di
 |search::visits::visit_module|order::(seek|insert|make)|state::words::high|placing::(place|place_row)|placing::tests::(survey|bad_arguments|out_of_range)|placing::names::duplicates
 |placing::symbols::(enter|mention_all)|placing::words::(lay|link)|image::(image_length|write_words|write_image)|loading::(walk_file|load_file)'
 
-kit=$(dirname "$(dirname "$(rt doc)")")
-machine=$(uname -m)
 out=$PWD/target/profile
 bench() { (cd compare && LNK100_LIB="$1" CARGO_TARGET_DIR="$out/cargo-$2" cargo build --offline --quiet --release --features library --bin bench); }
 
 mkdir -p "$out/lib"
-rt staticlib linker > "$out/log" 2>&1 || { cat "$out/log"; exit 1; }
+scripts/build.sh linker
 bench "$PWD/target/staticlib" built
 built=$out/cargo-built/release/bench
 if [ $# -eq 0 ]; then exec "$built" --rows; fi
 
-# the kit once more, with a clang that keeps its input
-rm -rf "$out/kit"
-mkdir -p "$out/kit/on/$machine/toolchain/bin"
-for each in "$kit"/*; do [ "${each##*/}" = on ] || ln -s "$each" "$out/kit/"; done
-for each in "$kit/on/$machine"/*; do [ "${each##*/}" = toolchain ] || ln -s "$each" "$out/kit/on/$machine/"; done
-tools=$kit/on/$machine/toolchain
-ln -s "$tools/lib" "$out/kit/on/$machine/toolchain/lib"
-for each in ld.lld llvm-ar; do ln -s "$tools/bin/$each" "$out/kit/on/$machine/toolchain/bin/"; done
-printf '#!/bin/sh\ncp module.bc "%s/module.bc"\nprintf "%%s\\n" "$*" > "%s/words"\nexec "%s/bin/clang" "$@"\n' "$out" "$out" "$tools" \
-    > "$out/kit/on/$machine/toolchain/bin/clang"
-chmod +x "$out/kit/on/$machine/toolchain/bin/clang"
-RATTLE_HOME=$out/kit rt staticlib linker > "$out/log" 2>&1 || { cat "$out/log"; exit 1; }
+# outside of the checkout, in which rt ci allows no other .rt files
+kit=$(mktemp -d)
+trap 'rm -rf "$kit"' EXIT
+scripts/watched-kit.sh "$kit/kit" "$out/modules"
+(cd crates/linker_c && "$kit/kit/bin/rt" lib --cpu x86-64) > "$out/log" 2>&1 || { cat "$out/log"; exit 1; }
 
-"$tools/bin/clang" --target=x86_64-unknown-linux-gnu -x ir "$out/module.bc" -S -emit-llvm -O0 -Xclang -disable-llvm-passes -o "$out/module.ll"
+clang=$(readlink -f "$kit/kit/toolchain/lib")/../bin/clang
+"$clang" --target=x86_64-unknown-linux-gnu -x ir "$out/modules/0.bc" -S -emit-llvm -O0 -Xclang -disable-llvm-passes -o "$out/module.ll"
 kept=$(printf %s "$KEPT" | tr -d '\n')
 sed -E "/^define .*@\"($kept)\"\(/s/ #0 / noinline #0 /" "$out/module.ll" > "$out/apart.ll"
-"$tools/bin/clang" --target=x86_64-unknown-linux-gnu -march=x86-64 -O3 -fPIC -ffunction-sections -c -x ir "$out/apart.ll" -o "$out/apart.o"
+"$clang" $(sed 's/ -x ir module\.bc -o module\.o//' "$out/modules/0.words") -x ir "$out/apart.ll" -o "$out/apart.o"
 rm -f "$out/lib/liblinker.a"
 ar rcs "$out/lib/liblinker.a" "$out/apart.o"
 bench "$out/lib" apart
@@ -68,7 +60,7 @@ if [ "$1" = --crates ]; then
     "$built" --rows | while read -r row label; do
         crates=$(by_function "$row" | awk '
             $2 == "total" { all = $1; next }
-            { split($2, part, "::"); sum[part[1] ~ /^lnk100_/ ? "linker" : part[1]] += $1 }
+            { split($2, part, "::"); sum[part[1] ~ /^(lnk100_|linker)/ ? "linker" : part[1]] += $1 }
             END { for (name in sum) if (sum[name] * 100 >= all) printf "%d %s\n", sum[name] * 100 / all, name }' | sort -rn \
             | awk '{ printf "%s%s %d%%", (NR == 1 ? "" : ", "), ($2 == "memory" ? "memset and memcpy" : $2), $1 }')
         echo "| $label | $(($(one_call "$row" verified) / 1000)) k | $(($(one_call "$row" rust) / 1000)) k | $crates |"

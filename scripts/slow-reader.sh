@@ -3,13 +3,13 @@
 # terminal, which hands over a line at a time. What is printed is held to docs/MANUAL.md, and so is when: advice has to be there before
 # the rest of the file is written, and not before its line's LF.
 #
-#   scripts/slow-reader.sh [PROGRAM]      default: target/bin/lnk100, which `rt check lnk100` writes
+#   scripts/slow-reader.sh [PROGRAM]      default: target/bin/lnk100, which `scripts/build.sh lnk100` writes
 #
 # Needs python3, for its pseudo-terminals. Where something is missing after 20 seconds the script says so and ends with status 1.
 set -eu
 cd "$(dirname "$0")/.."
 program=${1:-target/bin/lnk100}
-[ -x "$program" ] || { echo "slow-reader: no program $program; rt check lnk100 makes it"; exit 2; }
+[ -x "$program" ] || { echo "slow-reader: no program $program; scripts/build.sh lnk100 makes it"; exit 2; }
 exec python3 - "$program" <<'PY'
 import fcntl, os, pty, select, signal, subprocess, sys, tempfile, termios, time
 

@@ -1,44 +1,29 @@
 #!/usr/bin/env bash
 # Times the sources as they stand, with no proof, to see what a change is worth before it is proved.
 #
-#   scripts/profile.sh 0      first, once: the proved library's module, of which the exports are taken
-#   scripts/unproved.sh       writes target/unproved/liblinker.a and runs the benchmark over it, with 61 calls for each row
+#   scripts/unproved.sh          writes target/unproved/liblinker.a and runs the benchmark over it, with 61 calls for each row
+#   scripts/unproved.sh --only   writes it, for scripts/compare.sh or a profile: LNK100_LIB=$PWD/target/unproved scripts/compare.sh
 #
-# `rt try` compiles a program unproved. So a program over all the calls is made in a copy of the crates, the kit's clang is watched for
-# its module as in scripts/profile.sh, and the proved library's exports take the place of the program's `main`. `rt try` refuses
-# the crates line, reading and cells under their names, which modules of other crates have too; in the copy they have other ones. What the
-# benchmark then says of `verified` is said of the unproved library.
+# `rt try` compiles a program unproved, with checks. So a program over all the calls is made in a copy of the crates, the kit's clang is
+# watched for its module (scripts/watched-kit.sh), and in that the checks become empty, the calls are exported, and it is compiled as
+# the proved library is. What the benchmark then says of `verified` is said of that: the code of the sources, but not quite the module that a
+# proved library has, for a proof lets rt say more of it to LLVM.
 set -eu
 cd "$(dirname "$0")/.."
-kit=$(dirname "$(dirname "$(rt doc)")")
-machine=$(uname -m)
 out=$PWD/target/unproved
-exports=$PWD/target/profile/module.ll
-[ -f "$exports" ] || { echo "run scripts/profile.sh 0 first"; exit 1; }
-rm -rf "$out"
-mkdir -p "$out/copy" "$out/kit/on/$machine/toolchain/bin" "$out/modules"
-
-# the kit once more, with a clang that keeps its input
-for each in "$kit"/*; do [ "${each##*/}" = on ] || ln -s "$each" "$out/kit/"; done
-for each in "$kit/on/$machine"/*; do [ "${each##*/}" = toolchain ] || ln -s "$each" "$out/kit/on/$machine/"; done
-tools=$kit/on/$machine/toolchain
-ln -s "$tools/lib" "$out/kit/on/$machine/toolchain/lib"
-for each in ld.lld llvm-ar; do ln -s "$tools/bin/$each" "$out/kit/on/$machine/toolchain/bin/"; done
-printf '#!/bin/sh\nn=$(ls "%s" | wc -l)\ncp module.bc "%s/$n.bc"\nexec "%s/bin/clang" "$@"\n' "$out/modules" "$out/modules" "$tools" \
-    > "$out/kit/on/$machine/toolchain/bin/clang"
-chmod +x "$out/kit/on/$machine/toolchain/bin/clang"
+mkdir -p "$out"
+# outside of the checkout, in which rt ci allows no other .rt files
+work=$(mktemp -d)
+trap 'rm -rf "$work"' EXIT
+scripts/watched-kit.sh "$work/kit" "$out/modules"
 
 # the crates once more, with a program that makes all the calls
-cp -r crates crates.txt "$out/copy"
-cd "$out/copy"
-git init -q .
-for name in line reading cells; do mv "crates/$name" "crates/${name}_"; done
-sed -i 's/^use line::/use line_::/; s/^use reading::/use reading_::/; s/^use cells::/use cells_::/' crates/*/src/*.rt
-sed -i -E '/^#/!s/\b(line|reading|cells)\b/\1_/g' crates.txt
+mkdir -p "$work/copy/crates/calls/src"
+tar --exclude='crates/*/out' -cf - crates crates.txt | tar -C "$work/copy" -xf -
+cd "$work/copy"
 echo 'calls: linker' >> crates.txt
-mkdir -p crates/calls/src
 cat > crates/calls/src/main.rt <<'RT'
-fn main() {
+fn main(rt: HostRuntime) {
     let mut state = [0u64; linker::STATE_CELLS];
     let mut work = [0u64; linker::WORK_CELLS];
     let mut feed = [0u64; linker::FEED_CELLS];
@@ -58,16 +43,37 @@ fn main() {
     let l = linker::lnk100_drop(&mut feed);
 }
 RT
-RATTLE_HOME=$out/kit rt try calls > "$out/log" 2>&1 || { cat "$out/log"; exit 1; }
+(cd crates/calls && "$work/kit/bin/rt" try) > "$out/log" 2>&1 || { cat "$out/log"; exit 1; }
 
-# the second module is the one at -O3
+# the second module is the one with the checks; its words but those of a program that is tried
 cd "$out"
-"$tools/bin/clang" --target=x86_64-unknown-linux-gnu -x ir modules/1.bc -S -emit-llvm -O0 -Xclang -disable-llvm-passes -o program.ll
-awk '/^define (internal void @"calls::main"|i32 @main)\(/ { skip = 1 } !skip { print } /^}$/ { skip = 0 }' program.ll > library.ll
-awk '/^define .* @lnk100_[a-z]+\(/ { keep = 1 } keep { print } /^}$/ { keep = 0 }' "$exports" >> library.ll
-"$tools/bin/clang" --target=x86_64-unknown-linux-gnu -march=x86-64 -ffunction-sections -fdata-sections -mllvm -trap-unreachable \
-    -mllvm -no-trap-after-noreturn -Wno-override-module -O3 -fPIC -c -x ir library.ll -o linker.o
+clang=$(readlink -f "$work/kit/toolchain/lib")/../bin/clang
+"$clang" --target=x86_64-unknown-linux-gnu -x ir modules/1.bc -S -emit-llvm -O0 -Xclang -disable-llvm-passes -o program.ll
+sed -E '/^attributes #/s/sanitize_address "frame-pointer"="all"/"frame-pointer"="none"/' program.ll | awk '
+  /^define / {
+    skip = 0
+    if (match($0, /@"rattle-(llvm-checks::|try::site-)[^"]*"\([^)]*\)/)) {
+      print "define internal void " substr($0, RSTART, RLENGTH) " alwaysinline {\n  ret void\n}"
+      skip = 1
+    } else if ($0 ~ /@("calls::|main\(|__asan_)/) skip = 1
+    else if (match($0, /@"linker::lnk100_[a-z]+"/)) {
+      # to C an answer of more than two numbers is written where the first parameter points, and that pointer is what comes back
+      name = substr($0, RSTART, RLENGTH)
+      type = substr($0, 1, RSTART - 2); sub(/^define internal (noundef )?/, "", type)
+      with = substr($0, RSTART + RLENGTH); sub(/ #[0-9]+ \{$/, "", with)
+      export = name; gsub(/"|linker::/, "", export)
+      if (type == "void") exports = exports "define ptr " export with " {\n  call void " name with "\n  ret ptr %a0\n}\n"
+      else exports = exports "define " type " " export with " {\n  %r = call " type " " name with "\n  ret " type " %r\n}\n"
+    }
+  }
+  !skip { print }
+  /^}$/ { skip = 0 }
+  END { printf "%s", exports }' > library.ll
+words=$(sed -E 's/ -x ir module\.bc -o module\.o//; s/ -(fPIE|O0|fsanitize=address)\>//g' modules/1.words)
+"$clang" $words -fPIC -O3 -x ir library.ll -o linker.o
+rm -f liblinker.a
 ar rcs liblinker.a linker.o
 objcopy --set-section-alignment '.text.*=64' liblinker.a
+[ "${1:-}" != --only ] || exit 0
 cd ../../compare
-LNK100_LIB=$out exec cargo run --offline --quiet --release --features library --bin bench -- 61
+LNK100_LIB=$out cargo run --offline --quiet --release --features library --bin bench -- 61

@@ -6,7 +6,7 @@
 #   scripts/wrong-definitions.sh [FILE ...]    the places of crates/rules/specs/FILE.antt; of all files if none is named
 #
 # Where a spoilt place changes nothing that a call can show, missed/definitions.txt has it with the reason. Any other that is not
-# noticed is told, and then the status is 1. Some four seconds a place on two processors.
+# noticed is told, and then the status is 1. Each place costs a check of `rules`.
 set -eu
 cd "$(dirname "$0")/.."
 specs=crates/rules/specs
@@ -52,7 +52,8 @@ spoilt() { # FILE
 # A copy in which every name that a spoilt line can need is there, and which has been checked once.
 prepared() { # COPY
   mkdir "$1"
-  cp -r crates crates.txt "$1"
+  tar --exclude='crates/*/out' -cf - crates/rules | tar -C "$1" -xf -
+  grep '^rules:' crates.txt > "$1/crates.txt"
   sed -i -E '/^use Rattle\.std\.specs\.Prelude\.\{.*\}$/ {
       s/\{(.*)\}$/{, \1,}/
       :again
@@ -62,9 +63,9 @@ prepared() { # COPY
       s/,\}$/}/
     }
     s/^use (Rattle\.rules\.specs\.Answers)\.\{.*\}$/use \1.{'"$numbers"'is_line_fault, is_file_fault}/' "$1"/$specs/*.antt
-  (cd "$1" && rt dev rules) > "$1/said" 2>&1 || true
+  (cd "$1/crates/rules" && rt check) > "$1/said" 2>&1 || true
   grep -q '^logic=proved' "$1/said" || { echo "wrong-definitions: rules is not proved as it is"; cat "$1/said"; exit 1; }
-  cp -r "$1/target/inc" "$1/checked"
+  cp -r "$1/crates/rules/out" "$1/checked"
 }
 
 # Tries every line of standard input in a copy; prints it with what the check came to.
@@ -73,18 +74,18 @@ try_all() { # COPY
   while IFS=$'\t' read -r file line text; do
     cp "$1/$specs/$file.antt" "$1/right"
     text=$text awk -v at="$line" 'NR == at { print ENVIRON["text"]; next } { print }' "$1/right" > "$1/$specs/$file.antt"
-    (cd "$1" && rt dev rules) > "$1/said" 2>&1 || true
+    (cd "$1/crates/rules" && rt check) > "$1/said" 2>&1 || true
     if grep -q '^logic=proved' "$1/said"; then
       result=unnoticed
-    elif grep -qE "crates/rules/specs/[A-Za-z]*\.antt:[0-9:]* error" "$1/said"; then
+    elif grep -qE "^(\./)?specs/[A-Za-z]*\.antt:[0-9:]* error" "$1/said"; then
       result=void
     else
       result=noticed
     fi
     printf '%s\t%s\t%s\t%s\n' "$result" "$file" "$line" "$text"
     mv "$1/right" "$1/$specs/$file.antt"
-    rm -rf "$1/target/inc"
-    cp -r "$1/checked" "$1/target/inc"
+    rm -rf "$1/crates/rules/out"
+    cp -r "$1/checked" "$1/crates/rules/out"
   done
 }
 
