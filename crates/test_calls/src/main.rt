@@ -594,7 +594,10 @@ fn lend_to_all(rt: &impl Print, size: usize, cell: u64) {
 }
 
 fn lengths(rt: &impl Print) {
-    title(rt, b"lengths: FORCE, BASE, MEMORY, SYMBOLS, UNDEFINED, END, RESET");
+    title(
+        rt,
+        b"lengths: FORCE, BASE, MEMORY, SYMBOLS, UNDEFINED, END, RESET",
+    );
     lend_to_all(rt, 0, 0);
     lend_to_all(rt, 8707, 0);
     lend_to_all(rt, 8707, 5);

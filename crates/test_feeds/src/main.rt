@@ -39,8 +39,8 @@ use linker::STATE_CELLS;
 use memory::MORE_FEED;
 use obey::play_line;
 use pieces::TEXT;
-use test_script::{between, read_script};
 use std::io::Print;
+use test_script::{between, read_script};
 
 fn meant(b: u8) -> u8 {
     match b {

@@ -1,8 +1,8 @@
 // What stands in the cells that a call was lent, and what became of them.
 use crate::print::{number, say};
 use linker::{FEED_CELLS, STATE_CELLS, WORK_CELLS};
-use test_script::byte;
 use std::io::Print;
+use test_script::byte;
 
 // One cell more than a call is lent, so that what stands behind is seen too.
 pub const MORE_FEED: usize = FEED_CELLS + 1;
@@ -164,7 +164,12 @@ pub fn holds(cells: &[u64; MORE_FEED], text: &[u8]) -> bool {
     holds_bytes(cells, text)
 }
 
-pub fn tell_feed(rt: &impl Print, before: &[u64; MORE_FEED], after: &[u64; MORE_FEED], text: &[u8]) {
+pub fn tell_feed(
+    rt: &impl Print,
+    before: &[u64; MORE_FEED],
+    after: &[u64; MORE_FEED],
+    text: &[u8],
+) {
     if same_feed(before, after) {
         say(rt, b"; feed as before");
         return;

@@ -7,8 +7,8 @@ use crate::others::{base, end, force, load_file, memory, reset};
 use crate::pieces::{TEXT, piece_again, pieces_from, put_byte, put_file, rule_lines};
 use crate::print::say;
 use linker::{FEED_CELLS, STATE_CELLS, WORK_CELLS, lnk100_reset};
-use test_script::{between, byte, file_end, next_line, operand};
 use std::io::Print;
+use test_script::{between, byte, file_end, next_line, operand};
 
 // ---- operands
 
@@ -66,7 +66,12 @@ fn sizes(numbers: &[u8]) -> Sizes {
 
 // ---- lines
 
-fn start(rt: &impl Print, title: &[u8], feed: &mut [u64; MORE_FEED], state: &mut [u64; STATE_CELLS]) {
+fn start(
+    rt: &impl Print,
+    title: &[u8],
+    feed: &mut [u64; MORE_FEED],
+    state: &mut [u64; STATE_CELLS],
+) {
     say(rt, title);
     *feed = [0u64; MORE_FEED];
     lnk100_reset(state);
@@ -94,14 +99,16 @@ fn obey_feed(rt: &impl Print, line: &[u8], text: &[u8; TEXT], feed: &mut [u64; M
     let given = operand(line);
     match byte(line, 0) {
         b'O' => open(rt, feed, cells_lent(given, 0, FEED_CELLS)),
-        b'P' => piece(rt, 
+        b'P' => piece(
+            rt,
             feed,
             cells_lent(given, 2, FEED_CELLS),
             text,
             place(given, 0),
             place(given, 1),
         ),
-        b'N' => pieces_from(rt, 
+        b'N' => pieces_from(
+            rt,
             feed,
             text,
             (nth(given, 0) % 100000) as u32,
@@ -165,7 +172,13 @@ fn file_of(script: &[u8], from: usize, stop: usize) -> &[u8] {
 }
 
 // A line that a file stands under.
-fn obey_file(rt: &impl Print, letter: u8, file: &[u8], text: &mut [u8; TEXT], state: &mut [u64; STATE_CELLS]) {
+fn obey_file(
+    rt: &impl Print,
+    letter: u8,
+    file: &[u8],
+    text: &mut [u8; TEXT],
+    state: &mut [u64; STATE_CELLS],
+) {
     match letter {
         b'T' => put_file(text, file),
         b'L' => load_file(rt, state, file),

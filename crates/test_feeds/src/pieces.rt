@@ -3,8 +3,8 @@ use crate::files::counted;
 use crate::lend::feed_part;
 use crate::memory::{MORE_FEED, tell_feed};
 use crate::print::{number, say};
-use test_script::between;
 use std::io::Print;
+use test_script::between;
 
 // 129 pieces of 512.
 pub const TEXT: usize = 66048;
@@ -87,10 +87,17 @@ fn tell_quiet(rt: &impl Print, pieces: u16, quiet: u64) {
 }
 
 // Behind what has been fed, which is the text up to a position.
-pub fn pieces_from(rt: &impl Print, feed: &mut [u64; MORE_FEED], text: &[u8; TEXT], from: u32, pieces: u16) {
+pub fn pieces_from(
+    rt: &impl Print,
+    feed: &mut [u64; MORE_FEED],
+    text: &[u8; TEXT],
+    from: u32,
+    pieces: u16,
+) {
     let before = *feed;
     tell_quiet(rt, pieces, count_quiet(feed, text, from, false, pieces));
-    tell_feed(rt, 
+    tell_feed(
+        rt,
         &before,
         feed,
         between(text, 0, from as usize + 512 * (pieces as usize)),

@@ -2,8 +2,8 @@
 use crate::cells::tell_state;
 use crate::print::{answer, number, say};
 use linker::{STATE_CELLS, lnk100_base, lnk100_end, lnk100_force, lnk100_reset};
-use test_script::number_of;
 use std::io::Print;
+use test_script::number_of;
 
 pub fn reset(rt: &impl Print, state: &mut [u64; STATE_CELLS]) {
     let before = *state;

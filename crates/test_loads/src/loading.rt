@@ -4,8 +4,8 @@ use crate::print::{answer, number, say};
 use linker::{STATE_CELLS, WORK_CELLS, lnk100_load};
 use rules::answer::LoadAnswer;
 use rules::limits::LONGEST_FILE;
-use test_script::between;
 use std::io::Print;
+use test_script::between;
 
 // LOAD with the first cells as work memory.
 fn lend_work(state: &mut [u64], work: &mut [u64], size: usize, file: &[u8]) -> LoadAnswer {

@@ -4,8 +4,8 @@ use crate::listing::{list, list_memory};
 use crate::loading::{load, load_blank, load_into};
 use crate::print::say;
 use linker::{STATE_CELLS, WORK_CELLS};
-use test_script::{between, byte, file_end, next_line, number_of, operand};
 use std::io::Print;
+use test_script::{between, byte, file_end, next_line, number_of, operand};
 
 fn keep(state: &[u64; STATE_CELLS], kept: &mut [u64; STATE_CELLS]) {
     *kept = *state;
@@ -18,7 +18,12 @@ fn damage(state: &mut [u64; STATE_CELLS], at: usize) {
 }
 
 // A line that no file stands under.
-fn obey(rt: &impl Print, line: &[u8], state: &mut [u64; STATE_CELLS], kept: &mut [u64; STATE_CELLS]) {
+fn obey(
+    rt: &impl Print,
+    line: &[u8],
+    state: &mut [u64; STATE_CELLS],
+    kept: &mut [u64; STATE_CELLS],
+) {
     match byte(line, 0) {
         b'-' => start(rt, line, state),
         b':' => say(rt, line),
@@ -49,7 +54,13 @@ fn load_lines(rt: &impl Print, digits: &[u8], state: &mut [u64; STATE_CELLS], fi
 }
 
 // The file under a line L or C. Answers where the line behind the file's stop starts.
-fn play_file(rt: &impl Print, script: &[u8], line: &[u8], next: usize, state: &mut [u64; STATE_CELLS]) -> usize {
+fn play_file(
+    rt: &impl Print,
+    script: &[u8],
+    line: &[u8],
+    next: usize,
+    state: &mut [u64; STATE_CELLS],
+) -> usize {
     let stop = file_end(script, next);
     let file = between(script, next, stop);
     if byte(line, 0) == b'C' {

@@ -1,8 +1,8 @@
 // A line of the script: which case it is, and on what.
 use crate::build::{front, put, put_escaped, put_lines};
 use crate::show::{say, show};
-use test_script::{between, byte, file_end, next_line, operand};
 use std::io::Print;
+use test_script::{between, byte, file_end, next_line, operand};
 
 // The file in the lines from `next` on. Answers where the line behind its stop starts.
 fn show_lines(rt: &impl Print, script: &[u8], label: &[u8], next: usize) -> usize {

@@ -16,8 +16,8 @@ mod cases;
 mod show;
 
 use cases::play_line;
-use test_script::{between, read_script};
 use std::io::Print;
+use test_script::{between, read_script};
 
 // The turns bound the loop; a script has fewer lines.
 fn play(rt: &impl Print, script: &[u8]) {
