@@ -42,7 +42,7 @@ pub fn reset_then_ask(state: &mut [u64]) -> MemoryAnswer
 }
 
 // What a link answers: its LOAD and its END.
-#[derive(Drop)]
+#[derive(Clone, Copy)]
 pub struct LinkAnswers {
     pub load: LoadAnswer,
     pub end: EndAnswer,
@@ -59,7 +59,7 @@ pub fn link(state: &mut [u64], work: &mut [u64], file: &[u8], out: &mut [u8]) ->
 }
 
 // Two links of one file.
-#[derive(Drop)]
+#[derive(Clone, Copy)]
 pub struct TwoLinks {
     pub first: LinkAnswers,
     pub second: LinkAnswers,

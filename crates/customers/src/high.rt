@@ -6,7 +6,7 @@ use linker::{lnk100_base, lnk100_force, lnk100_load, lnk100_memory};
 use rules::answer::MemoryAnswer;
 
 // MEMORY, asked twice.
-#[derive(Drop)]
+#[derive(Clone, Copy)]
 pub struct AskedTwice {
     pub first: MemoryAnswer,
     pub second: MemoryAnswer,

@@ -11,7 +11,7 @@ pub fn end(state: &mut [u64], out: &mut [u8]) -> EndAnswer
 }
 
 // Two ENDs of one link.
-#[derive(Drop)]
+#[derive(Clone, Copy)]
 pub struct TwoEnds {
     pub first: EndAnswer,
     pub second: EndAnswer,

@@ -11,7 +11,7 @@ pub fn load(state: &mut [u64], work: &mut [u64], file: &[u8]) -> LoadAnswer
 }
 
 // A load, and a symbol that is listed behind it.
-#[derive(Drop)]
+#[derive(Clone, Copy)]
 pub struct LoadThenList {
     pub load: LoadAnswer,
     pub symbol: SymbolAnswer,

@@ -7,7 +7,7 @@ use linker::{
 use rules::answer::{CallAnswer, LoadAnswer, SymbolAnswer, UndefinedAnswer};
 
 // A FORCE, and the first undefined symbol behind it.
-#[derive(Drop)]
+#[derive(Clone, Copy)]
 pub struct ForceThenList {
     pub force: CallAnswer,
     pub listed: UndefinedAnswer,
@@ -23,7 +23,7 @@ pub fn force_then_list(state: &mut [u64], name: &[u8]) -> ForceThenList
 }
 
 // A BASE, a load there, and a symbol that is listed behind it.
-#[derive(Drop)]
+#[derive(Clone, Copy)]
 pub struct BaseThenLoad {
     pub base: CallAnswer,
     pub load: LoadAnswer,

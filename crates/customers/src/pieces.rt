@@ -21,7 +21,7 @@ pub fn load_in_two(
 }
 
 // What a piece advises, and the drop behind it.
-#[derive(Drop)]
+#[derive(Clone, Copy)]
 pub struct TriedPiece {
     pub piece: FeedAnswer,
     pub drop: CallAnswer,

@@ -8,7 +8,7 @@ use linker::{lnk100_base, lnk100_end, lnk100_force, lnk100_load};
 use rules::answer::{CallAnswer, EndAnswer, LoadAnswer};
 
 // Two loads.
-#[derive(Drop)]
+#[derive(Clone, Copy)]
 pub struct LoadAgain {
     pub first: LoadAnswer,
     pub second: LoadAnswer,
@@ -24,7 +24,7 @@ pub fn load_again(state: &mut [u64], work: &mut [u64], file: &[u8], other: &[u8]
 }
 
 // A load, and a call that answers a number alone.
-#[derive(Drop)]
+#[derive(Clone, Copy)]
 pub struct CallAfter {
     pub load: LoadAnswer,
     pub call: CallAnswer,
@@ -49,7 +49,7 @@ pub fn base_after(state: &mut [u64], work: &mut [u64], file: &[u8], address: u64
 }
 
 // A load and an END.
-#[derive(Drop)]
+#[derive(Clone, Copy)]
 pub struct LoadAndEnd {
     pub load: LoadAnswer,
     pub end: EndAnswer,

@@ -13,7 +13,7 @@ use text::names::{Name, read_name};
 use text::numbers::{Number, read_number};
 
 // What a header or a title says, and where the next line starts; or nothing, where `fits` is false.
-#[derive(Drop)]
+#[derive(Clone, Copy)]
 pub struct Frame {
     pub fits: bool,
     pub answer: LineAnswer,
@@ -21,7 +21,7 @@ pub struct Frame {
 }
 
 // A number of a header, and where the field behind it starts.
-#[derive(Drop)]
+#[derive(Clone, Copy)]
 struct Count {
     behind: usize,
     value: u16,

@@ -5,9 +5,6 @@ use mathlib.Core.Bool.{false}
 use mathlib.Core.List.{List, [], ◌∷◌}
 use mathlib.Core.Option.{some}
 use mathlib.Core.Path.{◌≡◌, refl, ◌∙◌}
-use Rattle.rules.specs.contracts.line.LineAnswer.{the_type}
-use types.Run.{OneOf, miss}
-use denote.Enum.Declared.{tag_of}
 use borrow.Author.Tests.{le-leb, lt-leb}
 use Rattle.rules.specs.Text.{fields_of, legal_front}
 use Rattle.rules.specs.Line.{fault, Shape, read_as, shape_for, say_fields_over, line_of, line_over, fault_in, within, test_bytes, line_answer, line_answer_over}
@@ -25,9 +22,9 @@ use Rattle.line.specs.Fitting.{line_fields, end_column}
 -- ---- the bytes
 
 -- an answer of another variant is no fault
-no_fault : (n : ℕ) (a : LineAnswer) → OneOf (1 ∷ 2 ∷ 3 ∷ 4 ∷ 5 ∷ 6 ∷ 7 ∷ 8 ∷ 9 ∷ 10 ∷ []) (tag_of the_type a) → within n (fault_in a) ≡ false
+no_fault : (n : ℕ) (a : LineAnswer) → ((f : Fault) → a ≡ Bad f → ⊥) → within n (fault_in a) ≡ false
 unfolding fault_in within
-no_fault n (Bad f) h = absurd (miss (1 ∷ 2 ∷ 3 ∷ 4 ∷ 5 ∷ 6 ∷ 7 ∷ 8 ∷ 9 ∷ 10 ∷ []) 0 tt h)
+no_fault n (Bad f) h = absurd (h f refl)
 no_fault n Blank h = refl
 no_fault n (Head x) h = refl
 no_fault n (Opening x) h = refl
@@ -58,7 +55,7 @@ module _ (front size : ℕ) (a : LineAnswer) where
     unfolding fault_in within
     byte_before e g p = byte_first (rw e (lt-leb _ front g)) p
 
-    pub byte_only : OneOf (1 ∷ 2 ∷ 3 ∷ 4 ∷ 5 ∷ 6 ∷ 7 ∷ 8 ∷ 9 ∷ 10 ∷ []) (tag_of the_type a) → {o : LineAnswer} → o ≡ Bad (fault IllegalByte (front + 1)) → o ≡ test_bytes front size a
+    pub byte_only : ((f : Fault) → a ≡ Bad f → ⊥) → {o : LineAnswer} → o ≡ Bad (fault IllegalByte (front + 1)) → o ≡ test_bytes front size a
     byte_only t p = byte_first (no_fault front a t) p
 
 -- ---- the whole line

@@ -16,7 +16,7 @@ const ANY_NUMBER: u16 = LARGEST_NUMBER as u16;
 pub const EXTERNAL_TYPE: u16 = 5;
 
 // What a field holds: a number, a name, or neither. What it does not hold is 0.
-#[derive(Drop)]
+#[derive(Clone, Copy)]
 pub enum FieldRead {
     Value { number: u16, name: u64 },
     Wrong(FaultKind),

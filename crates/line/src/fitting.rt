@@ -10,7 +10,7 @@ use rules::line::{Fault, FaultKind, LineAnswer};
 use text::fields::{field_from, field_start};
 
 // What the fields hold, each at its index, or the leftmost fault among them.
-#[derive(Drop)]
+#[derive(Clone, Copy)]
 pub struct FieldsRead {
     pub fits: bool,
     pub fault: Fault,

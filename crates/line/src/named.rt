@@ -16,7 +16,7 @@ use text::names::{Name, read_name};
 use text::numbers::{Number, field_number};
 
 // A field as a name, and where it ends; or nothing, where `fits` is false.
-#[derive(Drop)]
+#[derive(Clone, Copy)]
 pub struct NameFrom {
     pub fits: bool,
     pub name: u64,
@@ -24,14 +24,14 @@ pub struct NameFrom {
 }
 
 // The same as a number.
-#[derive(Drop)]
+#[derive(Clone, Copy)]
 pub struct NumberFrom {
     pub fits: bool,
     pub value: u16,
     pub end: usize,
 }
 
-#[derive(Drop)]
+#[derive(Clone, Copy)]
 pub struct EntryFrom {
     pub fits: bool,
     pub entry: Entry,

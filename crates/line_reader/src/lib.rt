@@ -1,6 +1,5 @@
-// The line reader: it holds the file and the position of its next line. The borrow checker covers no function over a struct
-// that holds a slice: each is proved by hand, so they are few and thin, and the work is `next_line`'s, a cursor over a plain
-// slice.
+// The line reader: it holds the file and the position of its next line. Its functions are few and thin; the work is `next_line`'s, a
+// cursor over a plain slice.
 #![tactic(auto)]
 
 ghost use Rattle.std.specs.Prelude.{◌≡◌, ◌<◌, length};
@@ -8,7 +7,7 @@ ghost use Rattle.text.specs.LineEnds.{NextLine};
 
 use text::lines::{LineSpan, next_line};
 
-#[derive(Drop)]
+#[derive(Clone, Copy)]
 pub struct LineReader<'a> {
     pub src: &'a [u8],
     pub at: usize,
@@ -39,8 +38,7 @@ pub fn next<'a>(reader: LineReader<'a>) -> LineSpan
     next_line(reader.src, reader.at)
 }
 
-// The same for a caller that holds the file and the position apart. It has a reader on the way, so it is proved by hand too; its
-// callers have none, and are covered.
+// The same for a caller that holds the file and the position apart.
 pub fn line_from(file: &[u8], at: usize) -> LineSpan
     requires { at < length file.now }
     ensures { NextLine at file.now result }

@@ -75,7 +75,7 @@ pub fn enter(parts: &[u64], base: usize, order: &mut [u8], state: &mut [u64]) ->
 }
 
 // Whether the table had room for the externals, and then the position of each in the table.
-#[derive(Drop)]
+#[derive(Clone, Copy)]
 pub struct Mentions {
     pub room: bool,
     pub at: [u16; EXTERNAL_ROOM],

@@ -18,7 +18,7 @@ fn larger(a: usize, b: usize) -> usize
     a
 }
 
-#[derive(Drop)]
+#[derive(Clone, Copy)]
 pub struct Extent {
     pub length: usize,
     pub externals: usize,

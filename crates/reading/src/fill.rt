@@ -8,7 +8,7 @@ use tables::parts::{part_body, part_head};
 use tables::rows::{FREE, MEMBER, SECTION, row_body, row_head};
 
 // How many parts and rows are written, and where the parts of the open module and the rows of the open section begin.
-#[derive(Drop)]
+#[derive(Clone, Copy)]
 pub struct Filled {
     pub parts: usize,
     pub rows: usize,

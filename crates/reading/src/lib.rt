@@ -27,7 +27,7 @@ use text::scan::LF;
 use usual::usual_word;
 
 // Where the reading of a file's lines begins: at a position, with the number of the line there, in a mode.
-#[derive(Drop)]
+#[derive(Clone, Copy)]
 pub struct Place {
     pub at: usize,
     pub line: u32,
@@ -35,7 +35,7 @@ pub struct Place {
 }
 
 // How far lines have been read: where the reading stands, and the number of the line that comes next; or the first fault.
-#[derive(Drop)]
+#[derive(Clone, Copy)]
 pub enum Reached {
     Clean {
         mode: Mode,
@@ -48,14 +48,14 @@ pub enum Reached {
     },
 }
 
-#[derive(Drop)]
+#[derive(Clone, Copy)]
 pub struct LinesRead {
     pub reached: Reached,
     pub filled: Filled,
 }
 
 // What reading a file came to, and how many parts and rows stand in the tables.
-#[derive(Drop)]
+#[derive(Clone, Copy)]
 pub struct FileRead {
     pub reading: Reading,
     pub parts: usize,

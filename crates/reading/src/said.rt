@@ -7,7 +7,7 @@ use line::line_answer;
 use line_reader::line_from;
 use rules::line::{Expected, LineAnswer};
 
-#[derive(Drop)]
+#[derive(Clone, Copy)]
 pub struct Said {
     pub answer: LineAnswer,
     pub next: usize,

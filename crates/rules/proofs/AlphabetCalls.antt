@@ -9,7 +9,6 @@ use lib.ListN.{length}
 use lib.Dec.{eqb, leb, ltb}
 use Rattle.rules.specs.Text.{all, Alphabet, unpack_name, is_name_over, is_packed_over}
 use Rattle.rules.specs.Answers.{DONE, DAMAGED, TOO_LONG, NAME, SYMBOL}
-use Rattle.rules.specs.Line.{fits, within}
 use Rattle.rules.specs.Reading.{reading_over, Item}
 use Rattle.rules.specs.State.{State, Symbol, sound_symbol_over, sound_over}
 use Rattle.rules.specs.Load.{Loaded, walked, walk_from, load_read_over, load_file_over}

@@ -1,15 +1,14 @@
 -- Placing a module places as many words as it has code words.
-use Prim.Native.Nat.{ℕ, zero, suc, ◌+◌, ◌<◌, ◌≤◌}
+use Prim.Native.Nat.{ℕ, zero, suc, ◌+◌, ◌<◌}
 use native.Mathlib.Nat.{le_of_suc-le-suc, not-suc-le-zero}
 use native.Mathlib.Omega.{arith}
-use mathlib.Core.Bool.{Bool, true, false, cond, ◌||◌}
+use mathlib.Core.Bool.{true, false}
 use mathlib.Core.List.{List, [], ◌∷◌, map}
 use mathlib.Core.Path.{◌≡◌, refl, sym, ap, ◌∙◌}
 use lib.ListN.{length, get_or, set, length-set, get_or-map}
-use lib.Dec.{ltb}
-use borrow.Author.Tests.{ltb-true, lt-ltb}
+use borrow.Author.Tests.{ltb-true}
 use Rattle.rules.specs.Text.{all}
-use Rattle.rules.specs.State.{Symbol, Word, unplaced, plain, refers, is_placed, placed_words}
+use Rattle.rules.specs.State.{Symbol, Word, unplaced, plain, is_placed, placed_words}
 use Rattle.rules.specs.Placing.{Code, linked, put_all}
 use Rattle.rules.specs.declared.line.Relocation.{Relocation}
 use Rattle.rules.specs.declared.line.Relocation.TheVariants.{Plain, External, Unread}

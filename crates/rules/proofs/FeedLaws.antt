@@ -1,11 +1,11 @@
 -- Document 02, 5/14, of the definitions: pieces in a row come to what all their bytes joined come to, and the first fault of the whole
 -- lines is told once, by the piece that brings its line's LF.
-use Prim.Native.Nat.{ℕ, suc, ◌+◌, ◌≤◌, ◌<◌}
+use Prim.Native.Nat.{ℕ, ◌+◌, ◌≤◌, ◌<◌}
 use native.Mathlib.Omega.{arith}
-use mathlib.Core.Bool.{Bool, true, false, cond, not, ◌&&◌, ◌||◌, or-true}
-use mathlib.Core.List.{List, [], ◌∷◌, ◌++◌, map, append_assoc, append-nil}
+use mathlib.Core.Bool.{Bool, true, false, cond, ◌&&◌, or-true}
+use mathlib.Core.List.{List, [], ◌∷◌, ◌++◌, append_assoc, append-nil}
 use mathlib.Core.Path.{◌≡◌, refl, sym, ap, subst, ◌∙◌}
-use lib.ListN.{length, length-append, length-replicate, replicate}
+use lib.ListN.{length, length-append, length-replicate}
 use lib.Dec.{eqb, leb, ltb}
 use borrow.Author.Tests.{eqb-true, leb-true, leb-false, le-leb, lt-leb, le-ltb, lt-ltb}
 use Rattle.rules.specs.Limits.{longest_file, longest_piece}
@@ -13,7 +13,7 @@ use Rattle.rules.specs.Text.{LF, CR, all, lines_of, widen_line, is_name_characte
 use Rattle.rules.specs.Reading.{ReadSoFar, unread, if_complete, read_line, read_line_over, read_lines, read_lines_over, stepped, step_at, module_done, module_at, reading_of, reading_over, Module}
 use Rattle.rules.specs.State.{State, unmarked, broken, marked}
 use Rattle.rules.specs.Load.{load_read_over, load_file_over}
-use Rattle.rules.specs.Calls.{LentOf, wrong_length, damaged, holding, LeftOf, as_before, now, Lent, outcome, shut_by, load_answer, load_stopped, load, load_over, load_lent_over, load_state_over}
+use Rattle.rules.specs.Calls.{LentOf, wrong_length, damaged, holding, as_before, now, Lent, outcome, load_answer, load, load_over, load_lent_over, load_state_over}
 use Rattle.rules.specs.Feed.{Feed, shut, fed, too_many, kept, before_lf, whole_lines, fault_so_far, advice, FeedOutcome, take_piece, feed_piece, close_outcome, close_feed, open_feed, drop_feed, advised, can_answer_feed, can_answer_close, joined, advices, Silent, ToldOnce, nothing, once, count_lf}
 use Rattle.rules.specs.declared.answer.FeedAnswer.{FeedAnswer}
 use Rattle.rules.specs.declared.reading.Mode.{Mode}

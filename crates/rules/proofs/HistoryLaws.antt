@@ -1,17 +1,17 @@
 -- "Placed words always equal the sum of the CODE counts of all modules placed since the reset."
 use Prim.Native.Nat.{ℕ, zero, suc, ◌+◌, ◌<◌}
 use native.Mathlib.Omega.{arith}
-use mathlib.Core.Bool.{Bool, true, false, cond, not, ◌&&◌}
+use mathlib.Core.Bool.{Bool, true, false, cond, ◌&&◌}
 use mathlib.Core.List.{List, [], ◌∷◌, ◌++◌}
 use mathlib.Core.Option.{some}
 use mathlib.Core.Path.{◌≡◌, refl, sym, ap, ◌∙◌}
 use lib.ListN.{length, get_elem?}
 use lib.Dec.{eqb}
 use borrow.Author.Tests.{ne_eqb, eq-eqb}
-use Rattle.rules.specs.Text.{all, between}
+use Rattle.rules.specs.Text.{between}
 use Rattle.rules.specs.Reading.{Module, Item, free, section, items_of}
 use Rattle.rules.specs.State.{State, fresh, placed_words}
-use Rattle.rules.specs.Placing.{code_count, placed, twice}
+use Rattle.rules.specs.Placing.{code_count, twice}
 use Rattle.rules.specs.Search.{ModuleSet, no_modules, with_module}
 use Rattle.rules.specs.Load.{Walk, refusal, walk, walking, accepted, place, takes, searched, section_names, test_section, Progress, progress, walk_item, walk_items}
 use Rattle.rules.specs.Calls.{holding, load, load_over, reset}

@@ -1,9 +1,9 @@
 -- The image: its length, and that only the fourth quarter of a word with an external reference differs from its text.
 use Prim.Native.Nat.{ℕ, ◌+◌, ◌*◌, ◌/◌, ◌%◌, ◌^◌}
 use native.Mathlib.Omega.{arith}
-use mathlib.Core.Bool.{cond, true, false}
+use mathlib.Core.Bool.{cond}
 use mathlib.Core.List.{List, [], ◌∷◌, ◌++◌}
-use mathlib.Core.Path.{◌≡◌, refl, sym, ap, ap₂, ◌∙◌}
+use mathlib.Core.Path.{◌≡◌, refl, ap₂}
 use lib.ListN.{length, length-append}
 use Rattle.rules.specs.State.{Symbol, Word, unplaced, plain, refers, State, is_placed, placed_words}
 use Rattle.rules.specs.Image.{value_of, completed, two, quarters, word_record, record_of, records_from, end_record, image_of}

@@ -4,10 +4,9 @@ use native.Mathlib.Omega.{arith}
 use mathlib.Core.Bool.{true}
 use mathlib.Core.List.{List, [], ◌∷◌}
 use mathlib.Core.Path.{◌≡◌}
-use lib.ListN.{length}
 use Rattle.rules.specs.Reading.{Item, free, section, items_of}
 use Rattle.rules.specs.State.{State}
-use Rattle.rules.specs.Load.{Walk, walking, accepted, place, takes, searched, Progress, progress, walk_item, walk_items, taken_at, taken_in, sections_at, sections_in}
+use Rattle.rules.specs.Load.{walking, accepted, place, takes, searched, Progress, progress, walk_item, walk_items, taken_at, taken_in, sections_at, sections_in}
 use Rattle.rules.specs.Calls.{holding, load}
 use Rattle.rules.proofs.SearchLaws.{search_rounds_most}
 use Rattle.rules.proofs.WalkLaws.{section_accepted, items_accepted, load_accepted}

@@ -9,7 +9,7 @@ use lib.Dec.{eqb}
 use borrow.Author.Tests.{ltb-false, leb-false, eqb-true}
 use Rattle.rules.specs.Text.{all, pack_name}
 use Rattle.rules.specs.Reading.{Module, Item, free, section, items_of}
-use Rattle.rules.specs.State.{Symbol, name_is, Mark, State, state, unplaced, fresh, no_words, marked, broken, frozen, sound_word, different_names, sound}
+use Rattle.rules.specs.State.{Symbol, name_is, Mark, State, unplaced, fresh, no_words, marked, broken, frozen, sound_word, different_names, sound}
 use Rattle.rules.specs.Placing.{mention, placing_fault, placed}
 use Rattle.rules.specs.Search.{ModuleSet}
 use Rattle.rules.specs.Load.{Walk, refusal, walk, walking, accepted, try_place, place, takes, searched, test_section, Progress, progress, walk_item, walk_items}

@@ -9,7 +9,7 @@ use lib.ListN.{length, set}
 use lib.Dec.{eqb, ltb, leb}
 use borrow.Author.Tests.{ltb-true, ltb-false, lt-ltb, le-leb, leb-true, eqb-true, eq-eqb, eqb-false}
 use Rattle.rules.specs.Text.{all, any, is_packed}
-use Rattle.rules.specs.State.{Symbol, symbol, name_is, is_symbol, position_of, Word, unplaced, plain, refers, State, state, sound_symbol, sound_symbol_over, different_names, sound_word, sound, sound_over}
+use Rattle.rules.specs.State.{Symbol, symbol, name_is, is_symbol, position_of, Word, unplaced, plain, refers, State, sound_symbol, sound_symbol_over, different_names, sound_word, sound, sound_over}
 use Rattle.rules.specs.Reading.{Module}
 use Rattle.rules.specs.Demand.{is_external}
 use Rattle.rules.specs.Placing.{Code, entries, externals, code, module_length, value_at, define, mention, define_all, mention_all, joined, linked, put_all, no_room, bad_argument, bad_arguments, out_of_range, table_full, placed, external_name}

@@ -1,5 +1,5 @@
 -- Document 01, "What the calls return": each call's whole outcome, from what it is lent to its answer and what is left.
-use Rattle.std.specs.Prelude.{ℕ, ◌+◌, Bool, true, false, cond, not, List, ◌++◌, length, get_or, drop, replicate, eqb, leb, ltb}
+use Rattle.std.specs.Prelude.{ℕ, Bool, true, false, cond, not, List, ◌++◌, length, get_or, drop, replicate, eqb, leb, ltb}
 use Rattle.rules.specs.Limits.{longest_file, most_symbols, largest_base}
 use Rattle.rules.specs.Text.{Alphabet, is_name_character, is_name_over, pack_name}
 use Rattle.rules.specs.Answers.{DONE, BUFFER, DAMAGED, RESET, FROZEN, TOO_LONG, RANGE, TABLE, NAME, OUT}

@@ -1,5 +1,5 @@
 -- Document 01, "The image", and the fourth quarter of demand 2.
-use Rattle.std.specs.Prelude.{ℕ, ◌+◌, ◌-◌, ◌*◌, ◌/◌, ◌%◌, ◌^◌, Bool, true, false, cond, List, [], ◌∷◌, ◌++◌, length, get_or}
+use Rattle.std.specs.Prelude.{ℕ, ◌+◌, ◌*◌, ◌/◌, ◌%◌, ◌^◌, false, cond, List, [], ◌∷◌, ◌++◌, length, get_or}
 use Rattle.rules.specs.State.{Symbol, symbol, Word, unplaced, plain, refers, State, high, undefined_only}
 
 -- the value of symbol i, 0 if it is undefined

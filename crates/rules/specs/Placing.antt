@@ -1,5 +1,5 @@
 -- Document 01, "Placing a module", with the answers 9 to 14.
-use Rattle.std.specs.Prelude.{ℕ, ◌+◌, ◌-◌, max, Bool, true, false, cond, not, ◌&&◌, ◌||◌, List, [], ◌∷◌, ◌++◌, map, length, get_or, set, eqb, leb, ltb}
+use Rattle.std.specs.Prelude.{ℕ, ◌+◌, ◌-◌, max, Bool, true, false, cond, ◌&&◌, ◌||◌, List, [], ◌∷◌, map, length, get_or, set, eqb, ltb}
 use Rattle.rules.specs.Limits.{program_words, most_symbols, largest_number}
 use Rattle.rules.specs.Text.{any}
 use Rattle.rules.specs.Answers.{DONE, ROOM, OVERLAP, ARG, RANGE, DUPLICATE, TABLE}

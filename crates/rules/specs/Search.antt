@@ -1,7 +1,7 @@
 -- Document 01, "Searching a library": rounds over the untaken modules, until one takes nothing.
 -- The search is over whatever test takes a module (`takes`) and whatever placing it does (`place`). Modules are told apart by their
 -- positions in the section, and a set of them is a function from positions.
-use Rattle.std.specs.Prelude.{ℕ, zero, suc, ◌+◌, Bool, true, false, cond, not, ◌&&◌, ◌||◌, List, [], ◌∷◌, length, eqb}
+use Rattle.std.specs.Prelude.{ℕ, zero, suc, ◌+◌, Bool, false, cond, not, ◌||◌, List, [], ◌∷◌, length, eqb}
 
 -- a set of modules, and one module more
 abbrev pub ModuleSet : Type 0

@@ -1,5 +1,5 @@
 -- Document 01, "What the calls return": the state of a link, and when it is sound.
-use Rattle.std.specs.Prelude.{ℕ, ◌+◌, ◌-◌, ◌^◌, Bool, true, false, cond, not, ◌&&◌, ◌||◌, List, [], ◌∷◌, length, replicate, eqb, leb, ltb}
+use Rattle.std.specs.Prelude.{ℕ, ◌+◌, ◌^◌, Bool, true, false, cond, not, ◌&&◌, ◌||◌, List, [], ◌∷◌, length, replicate, eqb, leb, ltb}
 use Rattle.rules.specs.Limits.{program_words, most_symbols, largest_number, no_address}
 use Rattle.rules.specs.Text.{all, any, Alphabet, is_name_character, is_packed_over}
 

@@ -48,7 +48,7 @@ pub const TYPE: u64 = 21;
 pub const FEED: u64 = 23;
 
 // Why a walk goes no further: an answer's number and a line of the file; both are 0 where it goes on.
-#[derive(Drop)]
+#[derive(Clone, Copy)]
 pub struct Refusal {
     pub number: u64,
     pub line: u64,
@@ -58,7 +58,7 @@ pub struct Refusal {
 
 // LOAD. column is that of a line's fault, and 0 where none is named.
 #[repr(C)]
-#[derive(Drop)]
+#[derive(Clone, Copy)]
 pub struct LoadAnswer {
     pub number: u64,
     pub line: u64,
@@ -68,7 +68,7 @@ pub struct LoadAnswer {
 
 // A piece of a file that is fed. advice, line and column are those of a fault that is told early, and 0 where none is.
 #[repr(C)]
-#[derive(Drop)]
+#[derive(Clone, Copy)]
 pub struct FeedAnswer {
     pub number: u64,
     pub advice: u64,
@@ -78,14 +78,14 @@ pub struct FeedAnswer {
 
 // FORCE, BASE and RESET; a feed's opening and its drop.
 #[repr(C)]
-#[derive(Drop)]
+#[derive(Clone, Copy)]
 pub struct CallAnswer {
     pub number: u64,
     pub line: u64,
 }
 
 #[repr(C)]
-#[derive(Drop)]
+#[derive(Clone, Copy)]
 pub struct MemoryAnswer {
     pub number: u64,
     pub line: u64,
@@ -94,7 +94,7 @@ pub struct MemoryAnswer {
 
 // SYMBOLS. none is 1 past the end; defined is 1 or 0.
 #[repr(C)]
-#[derive(Drop)]
+#[derive(Clone, Copy)]
 pub struct SymbolAnswer {
     pub number: u64,
     pub line: u64,
@@ -106,7 +106,7 @@ pub struct SymbolAnswer {
 
 // UNDEFINED: the same, with the highest address that refers to the symbol.
 #[repr(C)]
-#[derive(Drop)]
+#[derive(Clone, Copy)]
 pub struct UndefinedAnswer {
     pub number: u64,
     pub line: u64,
@@ -119,7 +119,7 @@ pub struct UndefinedAnswer {
 
 // END, with the image's length.
 #[repr(C)]
-#[derive(Drop)]
+#[derive(Clone, Copy)]
 pub struct EndAnswer {
     pub number: u64,
     pub line: u64,

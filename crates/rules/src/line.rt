@@ -1,7 +1,7 @@
 // What one line of an object file says.
 
 // What is wrong with a line. specs/Faults.antt gives each kind's answer.
-#[derive(Drop)]
+#[derive(Clone, Copy)]
 pub enum FaultKind {
     // A byte outside 32 to 126, or an 81st byte.
     IllegalByte,
@@ -16,14 +16,14 @@ pub enum FaultKind {
 }
 
 // A fault and the column, from 1, that it is told at.
-#[derive(Drop)]
+#[derive(Clone, Copy)]
 pub struct Fault {
     pub kind: FaultKind,
     pub column: usize,
 }
 
 // What a field of a line has to be.
-#[derive(Drop)]
+#[derive(Clone, Copy)]
 pub enum Kind {
     // A number; one outside low to high is the fault named.
     Number {
@@ -38,7 +38,7 @@ pub enum Kind {
 }
 
 // How a code word's fourth quarter is completed: not at all, by an external with its number, or by a type carried unread.
-#[derive(Drop)]
+#[derive(Clone, Copy)]
 pub enum Relocation {
     Plain,
     External(u16),
@@ -46,14 +46,14 @@ pub enum Relocation {
 }
 
 // A code word: its four quarters, the first highest, and its relocation.
-#[derive(Drop)]
+#[derive(Clone, Copy)]
 pub struct CodeWord {
     pub text: u64,
     pub relocation: Relocation,
 }
 
 // An entry record.
-#[derive(Drop)]
+#[derive(Clone, Copy)]
 pub struct Entry {
     pub name: u64,
     pub value: u16,
@@ -62,7 +62,7 @@ pub struct Entry {
 }
 
 // A block's header.
-#[derive(Drop)]
+#[derive(Clone, Copy)]
 pub enum Header {
     CodeBlock { count: u16, offset: u16 },
     EndBlock,
@@ -77,7 +77,7 @@ pub enum Header {
 }
 
 // What the next line of a file has to be, where it has a field.
-#[derive(Drop)]
+#[derive(Clone, Copy)]
 pub enum Expected {
     AnyHeader,
     OpeningTitle,
@@ -92,7 +92,7 @@ pub enum Expected {
 }
 
 // What a line says, given what was expected of it: a variant for each thing that can be expected.
-#[derive(Drop)]
+#[derive(Clone, Copy)]
 pub enum LineAnswer {
     Bad(Fault),
     Blank,

@@ -3,7 +3,7 @@ use crate::line::{CodeWord, Entry, Expected};
 
 // The block whose records are being read: its offset and count, how many of its records are to come, and how many
 // sub-records of the open parameter record.
-#[derive(Drop)]
+#[derive(Clone, Copy)]
 pub struct OpenBlock {
     pub offset: u16,
     pub count: u16,
@@ -13,7 +13,7 @@ pub struct OpenBlock {
 
 // The object module being read: whether there is one, its title, the line of its TITLE header, and how many entries and
 // externals it has so far.
-#[derive(Drop)]
+#[derive(Clone, Copy)]
 pub struct OpenModule {
     pub inside: bool,
     pub title: u64,
@@ -23,7 +23,7 @@ pub struct OpenModule {
 }
 
 // The library section being read: whether there is one, the line of its LSB header, and how many modules it has so far.
-#[derive(Drop)]
+#[derive(Clone, Copy)]
 pub struct OpenSection {
     pub inside: bool,
     pub line: u32,
@@ -32,7 +32,7 @@ pub struct OpenSection {
 
 // Where the reading stands between two lines, and what the next line has to be. The block stands first: it is one word of the machine
 // there, and behind a field of one byte it would lie across two, for which the machine waits at each line.
-#[derive(Drop)]
+#[derive(Clone, Copy)]
 pub struct Mode {
     pub block: OpenBlock,
     pub expected: Expected,
@@ -41,7 +41,7 @@ pub struct Mode {
 }
 
 // One part of a module, in file order.
-#[derive(Drop)]
+#[derive(Clone, Copy)]
 pub enum Part {
     EntryPart(Entry),
     ExternalPart(u64),
@@ -52,7 +52,7 @@ pub enum Part {
 }
 
 // What a line does to the reading.
-#[derive(Drop)]
+#[derive(Clone, Copy)]
 pub enum Step {
     // Answer 6, 7 or 8, at a column (0 where none is named).
     Stop { number: u64, column: usize },
@@ -65,7 +65,7 @@ pub enum Step {
 }
 
 // What reading a whole file comes to.
-#[derive(Drop)]
+#[derive(Clone, Copy)]
 pub enum Reading {
     Complete,
     Stopped {

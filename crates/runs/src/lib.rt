@@ -14,7 +14,7 @@ use crate::lines::{entry, external, pair, word};
 use rules::line::Expected;
 
 // So many records, and where the line behind them starts.
-#[derive(Drop)]
+#[derive(Clone, Copy)]
 pub struct Run {
     pub count: usize,
     pub next: usize,

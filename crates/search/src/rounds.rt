@@ -15,7 +15,7 @@ use rules::limits::MODULE_ROOM;
 use tables::rows::Section;
 
 // After a round: the flags of the modules taken, how many this round took, and the refusal.
-#[derive(Drop)]
+#[derive(Clone, Copy)]
 pub struct Round {
     pub flags: [bool; MODULE_ROOM],
     pub took: usize,
@@ -86,7 +86,7 @@ fn first_candidates(
 }
 
 // After a search: the refusal, and the number of rounds.
-#[derive(Drop)]
+#[derive(Clone, Copy)]
 pub struct Searched {
     pub refusal: Refusal,
     pub rounds: usize,

@@ -14,7 +14,7 @@ use state::header::symbol_count;
 use tables::rows::{Section, module_cells};
 
 // After a visit: whether the module is taken now, 1 if this visit took it, and the refusal.
-#[derive(Drop)]
+#[derive(Clone, Copy)]
 pub struct Visit {
     pub flag: bool,
     pub took: usize,

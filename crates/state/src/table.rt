@@ -85,7 +85,7 @@ pub fn mention_at(state: &mut [u64], at: usize, name: u64) -> usize
 }
 
 // A symbol as the listings tell it.
-#[derive(Drop)]
+#[derive(Clone, Copy)]
 pub struct Listed {
     pub name: u64,
     pub value: u64,

@@ -1,11 +1,7 @@
 -- The end of a file: inside a module or a section, before a record, and at rest.
 use Prim.Native.Nat.{ℕ}
 use mathlib.Core.Bool.{Bool, true, false, not, ◌&&◌, ◌||◌, and-false, or-true}
-use mathlib.Core.List.{List, [], ◌∷◌}
 use mathlib.Core.Path.{◌≡◌, refl, ap, ap₂, ◌∙◌}
-use denote.Enum.Declared.{tag_of}
-use types.Run.{OneOf, miss}
-use Rattle.rules.specs.contracts.line.Expected.{the_type}
 use Rattle.rules.specs.Reading.{is_header, at_end}
 use Rattle.rules.specs.declared.line.Expected.{Expected}
 use Rattle.rules.specs.declared.line.Expected.TheVariants.{AnyHeader, OpeningTitle, ClosingTitle, CodeRecord, EntryRecord, ExternalRecord, DataRecord, InitRecord, ParameterRecord, SubRecord}
@@ -13,13 +9,9 @@ use Rattle.rules.specs.declared.reading.Mode.{Mode}
 use Rattle.rules.specs.declared.reading.Reading.TheVariants.{Complete, Stopped}
 use Rattle.steps.proofs.CaseLaws.{if_true, if_false}
 
--- whatever can be expected but a header, as a `match` numbers it
-abbrev record_tags : List ℕ
-record_tags = 1 ∷ 2 ∷ 3 ∷ 4 ∷ 5 ∷ 6 ∷ 7 ∷ 8 ∷ 9 ∷ []
-
-not_header_lem : (w : Expected) → OneOf record_tags (tag_of the_type w) → is_header w ≡ false
+not_header_lem : (w : Expected) → (w ≡ AnyHeader → ⊥) → is_header w ≡ false
 unfolding is_header
-not_header_lem AnyHeader h = absurd (miss record_tags 0 tt h)
+not_header_lem AnyHeader h = absurd (h refl)
 not_header_lem OpeningTitle h = refl
 not_header_lem ClosingTitle h = refl
 not_header_lem CodeRecord h = refl
@@ -45,7 +37,7 @@ module _ (n : ℕ) (m : Mode) where
   cut_in_section e =
       cut _ refl true (ap (◌||◌ m.object.inside) e ∙ or-true m.object.inside) (and-false (is_header m.expected))
 
-  pub cut_before_record : OneOf record_tags (tag_of the_type m.expected) → Stopped 7 n 0 ≡ at_end n m
+  pub cut_before_record : (m.expected ≡ AnyHeader → ⊥) → Stopped 7 n 0 ≡ at_end n m
   cut_before_record h = cut false (not_header_lem m.expected h) _ refl refl
 
   pub complete : m.object.inside ≡ false → m.section.inside ≡ false → m.expected ≡ AnyHeader → Complete ≡ at_end n m

@@ -1,12 +1,10 @@
 -- What a file holds, as two tables of 64-bit cells, two cells an element. The reading fills them, and the walk goes over them.
 -- Parts: the parts of all modules, one after the other. Rows: a row for each module and each section, written when it closes:
 -- a module with its range of parts, a section with its range of rows. Every cell decodes to something.
-use Rattle.std.specs.Prelude.{ℕ, zero, suc, ◌+◌, ◌-◌, ◌*◌, ◌/◌, ◌%◌, ◌≤◌, Bool, true, false, cond, List, [], ◌∷◌, get_or, take, drop, eqb, ◌≡◌}
+use Rattle.std.specs.Prelude.{ℕ, zero, suc, ◌+◌, ◌-◌, ◌*◌, ◌/◌, ◌%◌, ◌≤◌, true, false, cond, List, [], ◌∷◌, get_or, take, drop, eqb, ◌≡◌}
 use Rattle.rules.specs.Line.{entry, code_word}
 use Rattle.rules.specs.Reading.{Module, module_at, Item, free, section}
 use Rattle.tables.specs.declared.rows.Section.{Section}
-use Rattle.rules.specs.declared.line.Entry.{Entry}
-use Rattle.rules.specs.declared.line.CodeWord.{CodeWord}
 use Rattle.rules.specs.declared.line.Relocation.{Relocation}
 use Rattle.rules.specs.declared.line.Relocation.TheVariants.{Plain, External, Unread}
 use Rattle.rules.specs.declared.reading.Part.{Part}

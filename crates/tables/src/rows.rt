@@ -62,7 +62,7 @@ pub fn row_end(rows: &[u64], i: usize) -> usize
 }
 
 // The modules of a section: so many rows, from row `first` on.
-#[derive(Drop)]
+#[derive(Clone, Copy)]
 pub struct Section {
     pub first: usize,
     pub count: usize,

@@ -9,7 +9,7 @@ use rules::limits::LONGEST_LINE;
 
 // Where a line stops, its end left out, and where the next one starts; and how many legal bytes stand at the line's front, at
 // most 80.
-#[derive(Drop)]
+#[derive(Clone, Copy)]
 pub struct LineSpan {
     pub stop: usize,
     pub next: usize,

@@ -5,7 +5,7 @@ ghost use Rattle.text.specs.Values.{name_in, ByteAt};
 
 use rules::limits::LONGEST_NAME;
 
-#[derive(Drop)]
+#[derive(Clone, Copy)]
 pub enum Name {
     // The name's six bytes in base 256, the first highest, 0 where it is shorter.
     Packed(u64),

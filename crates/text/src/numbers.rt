@@ -10,14 +10,14 @@ use crate::fields::next_field;
 use crate::scan::SPACE;
 use rules::limits::{LARGEST_NUMBER, MOST_DIGITS};
 
-#[derive(Drop)]
+#[derive(Clone, Copy)]
 pub enum Number {
     Value(u16),
     NotANumber,
 }
 
 // Digits at the front of a text, at most six: their value, and where they end.
-#[derive(Drop)]
+#[derive(Clone, Copy)]
 pub struct DigitRun {
     pub value: u32,
     pub end: usize,
@@ -82,7 +82,7 @@ pub fn read_number(field: &[u8]) -> Number
 }
 
 // A field as a number, and where the field ends where it starts at the position asked for.
-#[derive(Drop)]
+#[derive(Clone, Copy)]
 pub struct NumberField {
     pub number: Number,
     pub end: usize,

@@ -13,7 +13,7 @@ use text::numbers::digits;
 use text::scan::{CR, LF, SPACE};
 
 // The word of a code record without a relocation, and where the next line starts; or nothing, where `fits` is false.
-#[derive(Drop)]
+#[derive(Clone, Copy)]
 pub struct UsualWord {
     pub fits: bool,
     pub text: u64,

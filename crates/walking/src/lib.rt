@@ -22,7 +22,7 @@ use search::rounds::search;
 use tables::rows::{FREE, SECTION, Section, row_kind, row_line, section_of};
 
 // How far a walk has come: its refusal, and the rounds of its searches.
-#[derive(Drop)]
+#[derive(Clone, Copy)]
 pub struct WalkSoFar {
     pub refusal: Refusal,
     pub rounds: usize,

@@ -1,0 +1,19 @@
+use borrow.Author.Rules.{rules}
+use native.Mathlib.Omega.{arith}
+use mathlib.Core.Path.{◌≡◌, refl, sym, ◌∙◌}
+use lib.ListN.{length}
+use Prim.Native.Nat.{◌-◌, ◌≤◌}
+use Rattle.rules.specs.Placing.{externals_in}
+use Rattle.state.specs.Layout.{decode}
+use Rattle.state.specs.Good.{Good}
+use Rattle.order.specs.Order.{Ordered}
+use Rattle.tables.specs.Heads.{parts_from}
+use Rattle.placing.specs.Effects.{Mentioning}
+use Rattle.placing.proofs.MentionLaws.{mention_skip, mention_index, mention_full, mention_put, mention_done}
+use Rattle.placing.proofs.symbols.mention_all.Given as goal
+
+abbrev pub invariant-loop-i : goal.invariant-loop-i
+invariant-loop-i l = (l.i ≤ l.n) × (l.n ≡ length l.parts) × (Good l.state × Ordered l.state l.order) × (length l.state ≡ length l.initial.state) × Mentioning (externals_in (parts_from l.parts 0)) (decode l.initial.state) l.count l.at (externals_in (parts_from l.parts l.i)) (decode l.state)
+
+abbrev pub decreases-loop-i : goal.decreases-loop-i
+decreases-loop-i l = l.n - l.i

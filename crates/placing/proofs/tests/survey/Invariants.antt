@@ -1,0 +1,17 @@
+use borrow.Author.Rules.{rules}
+use native.Mathlib.Omega.{arith}
+use mathlib.Core.Path.{◌≡◌, refl, sym, ◌∙◌}
+use lib.ListN.{length}
+use Prim.Native.Nat.{◌+◌, ◌-◌, ◌≤◌, max}
+use lib.ListN.{get_or}
+use Rattle.rules.specs.Placing.{externals_in, length_in}
+use Rattle.tables.specs.Heads.{parts_from}
+use Rattle.tables.proofs.HeadLaws.{block_end_most}
+use Rattle.placing.proofs.PassLaws.{one_most, length_next, length_done, externals_next, externals_done}
+use Rattle.placing.proofs.tests.survey.Given as goal
+
+abbrev pub invariant-loop-i : goal.invariant-loop-i
+invariant-loop-i l = (l.i ≤ l.n) × (l.n ≡ length l.parts) × (l.externals ≤ l.i) × (l.most ≤ 131070) × (max l.most (length_in (parts_from l.parts l.i)) ≡ length_in (parts_from l.parts 0)) × (l.externals + length (externals_in (parts_from l.parts l.i)) ≡ length (externals_in (parts_from l.parts 0)))
+
+abbrev pub decreases-loop-i : goal.decreases-loop-i
+decreases-loop-i l = l.n - l.i

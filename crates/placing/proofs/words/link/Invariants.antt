@@ -1,0 +1,18 @@
+use borrow.Author.Rules.{rules}
+use native.Mathlib.Omega.{arith}
+use mathlib.Core.Path.{◌≡◌, refl, sym, ap, ◌∙◌}
+use lib.ListN.{length, get_or}
+use Prim.Native.Nat.{ℕ, ◌-◌, ◌≤◌, ◌<◌}
+use Rattle.rules.specs.Placing.{externals_in, code_in}
+use Rattle.state.specs.Layout.{decode}
+use Rattle.state.specs.Good.{Good}
+use Rattle.tables.specs.Heads.{parts_from}
+use Rattle.placing.specs.Effects.{Linking}
+use Rattle.placing.proofs.WordLaws.{link_number, link_skip, link_put, link_done}
+use Rattle.placing.proofs.words.link.Given as goal
+
+abbrev pub invariant-loop-i : goal.invariant-loop-i
+invariant-loop-i l = (l.i ≤ l.n) × (l.n ≡ length l.parts) × Good l.state × (length l.state ≡ length l.initial.state) × Linking l.base (length (externals_in (parts_from l.parts 0))) l.at (code_in (parts_from l.parts 0)) (decode l.initial.state) (code_in (parts_from l.parts l.i)) (decode l.state)
+
+abbrev pub decreases-loop-i : goal.decreases-loop-i
+decreases-loop-i l = l.n - l.i

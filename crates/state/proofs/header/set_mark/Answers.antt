@@ -1,0 +1,7 @@
+use borrow.Author.Rules.{rules}
+use native.Mathlib.Omega.{arith}
+use Rattle.state.proofs.HeaderLaws.{mark_set}
+use Rattle.state.proofs.header.set_mark.Goals as goal
+
+pub returns : goal.returns
+returns c = mark_set c.requires.good _ c.requires.mark_bound

@@ -1,0 +1,10 @@
+use native.Mathlib.Omega.{arith}
+use Rattle.state.specs.Words.{HighBelow}
+use Rattle.state.proofs.HighestLaws.{high_here, high_lower, high_none}
+use Rattle.state.proofs.words.high.Given as goal
+
+abbrev pub invariant-loop-n : goal.invariant-loop-n
+invariant-loop-n l = HighBelow l.state l.n
+
+abbrev pub decreases-loop-n : goal.decreases-loop-n
+decreases-loop-n l = l.n
