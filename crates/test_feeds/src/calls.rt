@@ -33,7 +33,7 @@ pub fn piece(
     say(rt, b"FEED");
     number(rt, part.len() as u64);
     say(rt, b":");
-    piece_answer(rt, &feed_in_front(feed, size, part));
+    piece_answer(rt, feed_in_front(feed, size, part));
     tell_feed(rt, &before, feed, between(text, 0, to));
     say(rt, b"\n");
 }
@@ -60,7 +60,7 @@ fn close_lent(
     let mut work = [5u64; MORE_WORK];
     let work_size = sizes.work;
     say(rt, b"CLOSE");
-    load_answer(rt, &close_in_front(feed, state, &mut work, sizes));
+    load_answer(rt, close_in_front(feed, state, &mut work, sizes));
     tell_feed(rt, &feed_before, feed, b"");
     tell_state(rt, &state_before, state);
     tell_work(rt, &work, work_size);
@@ -77,7 +77,7 @@ pub fn close(
     say(rt, b"\n");
 }
 
-pub fn same_answer(a: &LoadAnswer, b: &LoadAnswer) -> bool {
+pub fn same_answer(a: LoadAnswer, b: LoadAnswer) -> bool {
     if a.number != b.number {
         return false;
     }
@@ -100,7 +100,7 @@ pub fn close_fed(
     let mut other = *state;
     close_lent(rt, feed, state, right_sizes());
     say(rt, b"; LOAD");
-    load_answer(rt, &load(&mut other, file));
+    load_answer(rt, load(&mut other, file));
     if same_state(state, &other) {
         say(rt, b", same state\n");
         return;

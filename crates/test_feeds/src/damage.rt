@@ -16,7 +16,7 @@ fn open_and_feed(rt: &impl Print, feed: &mut [u64; MORE_FEED], size: usize) {
     say(rt, b"OPEN");
     call_answer(rt, open_in_front(feed, size));
     say(rt, b", FEED");
-    piece_answer(rt, &feed_in_front(feed, size, b"A"));
+    piece_answer(rt, feed_in_front(feed, size, b"A"));
 }
 
 // All four on the first cells.
@@ -31,7 +31,7 @@ fn four_calls(rt: &impl Print, feed: &mut [u64; MORE_FEED], size: usize) {
     };
     open_and_feed(rt, feed, size);
     say(rt, b", CLOSE");
-    load_answer(rt, &close_in_front(feed, &mut state, &mut work, sizes));
+    load_answer(rt, close_in_front(feed, &mut state, &mut work, sizes));
     say(rt, b", DROP");
     call_answer(rt, drop_in_front(feed, size));
     tell_feed(rt, &before, feed, b"");

@@ -29,12 +29,12 @@ fn closes_as(
     feed: &mut [u64; MORE_FEED],
     from: &[u64; STATE_CELLS],
     loaded: &[u64; STATE_CELLS],
-    answer: &LoadAnswer,
+    answer: LoadAnswer,
 ) -> bool {
     let mut state = *from;
     let mut work = [5u64; MORE_WORK];
     let a = close_in_front(feed, &mut state, &mut work, right_sizes());
-    if !same_answer(&a, answer) {
+    if !same_answer(a, answer) {
         return false;
     }
     if !same_state(&state, loaded) {
@@ -49,7 +49,7 @@ fn closes_as(
 // ---- a cut in two
 
 // Of one cut: the answers of its two pieces, whether feed memory held just what was fed, and whether the close was as LOAD.
-#[derive(Drop)]
+#[derive(Clone, Copy)]
 pub struct Cut {
     pub first: FeedAnswer,
     pub second: FeedAnswer,
@@ -79,7 +79,7 @@ fn in_two(
     cut: usize,
     from: &[u64; STATE_CELLS],
     loaded: &[u64; STATE_CELLS],
-    answer: &LoadAnswer,
+    answer: LoadAnswer,
 ) -> Cut {
     let mut feed = [0u64; MORE_FEED];
     let empty = opened(&mut feed);
@@ -96,7 +96,7 @@ fn in_two(
     }
 }
 
-fn same_advice(a: &FeedAnswer, b: &FeedAnswer) -> bool {
+fn same_advice(a: FeedAnswer, b: FeedAnswer) -> bool {
     if a.number != b.number {
         return false;
     }
@@ -110,10 +110,10 @@ fn same_advice(a: &FeedAnswer, b: &FeedAnswer) -> bool {
 }
 
 // The answers of a cut's two pieces, where they are not those of the cut in front of it.
-fn tell_cut(rt: &impl Print, cut: usize, now: &Cut, last: &Cut) {
+fn tell_cut(rt: &impl Print, cut: usize, now: Cut, last: Cut) {
     if cut != 0 {
-        if same_advice(&now.first, &last.first) {
-            if same_advice(&now.second, &last.second) {
+        if same_advice(now.first, last.first) {
+            if same_advice(now.second, last.second) {
                 return;
             }
         }
@@ -121,9 +121,9 @@ fn tell_cut(rt: &impl Print, cut: usize, now: &Cut, last: &Cut) {
     say(rt, b"cut from");
     number(rt, cut as u64);
     say(rt, b":");
-    piece_answer(rt, &now.first);
+    piece_answer(rt, now.first);
     say(rt, b",");
-    piece_answer(rt, &now.second);
+    piece_answer(rt, now.second);
     say(rt, b"\n");
 }
 
@@ -142,10 +142,10 @@ fn every_cut(
     file: &[u8],
     from: &[u64; STATE_CELLS],
     loaded: &[u64; STATE_CELLS],
-    answer: &LoadAnswer,
+    answer: LoadAnswer,
 ) {
     let mut last = in_two(file, 0, from, loaded, answer);
-    tell_cut(rt, 0, &last, &last);
+    tell_cut(rt, 0, last, last);
     let mut held = counted(0, last.held);
     let mut as_load = counted(0, last.as_load);
     let mut cuts = 1;
@@ -153,7 +153,7 @@ fn every_cut(
     while cut < file.len() {
         cut += 1;
         let now = in_two(file, cut, from, loaded, answer);
-        tell_cut(rt, cut, &now, &last);
+        tell_cut(rt, cut, now, last);
         held = counted(held, now.held);
         as_load = counted(as_load, now.as_load);
         cuts = counted(cuts, true);
@@ -174,7 +174,7 @@ fn tell_piece(rt: &impl Print, number_of_piece: u64, a: FeedAnswer) {
     say(rt, b"piece");
     number(rt, number_of_piece);
     say(rt, b":");
-    piece_answer(rt, &a);
+    piece_answer(rt, a);
     say(rt, b"\n");
 }
 
@@ -214,7 +214,7 @@ fn single_bytes(
     file: &[u8],
     from: &[u64; STATE_CELLS],
     loaded: &[u64; STATE_CELLS],
-    answer: &LoadAnswer,
+    answer: LoadAnswer,
 ) {
     let mut feed = [0u64; MORE_FEED];
     open_feed(&mut feed);
@@ -234,7 +234,7 @@ fn with_empty_pieces(
     file: &[u8],
     from: &[u64; STATE_CELLS],
     loaded: &[u64; STATE_CELLS],
-    answer: &LoadAnswer,
+    answer: LoadAnswer,
 ) {
     let mut feed = [0u64; MORE_FEED];
     open_feed(&mut feed);
@@ -258,9 +258,9 @@ pub fn feed_file(rt: &impl Print, file: &[u8], state: &mut [u64; STATE_CELLS]) {
     let from = *state;
     let answer = load(state, file);
     say(rt, b"LOAD");
-    load_answer(rt, &answer);
+    load_answer(rt, answer);
     say(rt, b"\n");
-    every_cut(rt, file, &from, state, &answer);
-    single_bytes(rt, file, &from, state, &answer);
-    with_empty_pieces(rt, file, &from, state, &answer);
+    every_cut(rt, file, &from, state, answer);
+    single_bytes(rt, file, &from, state, answer);
+    with_empty_pieces(rt, file, &from, state, answer);
 }

@@ -36,7 +36,7 @@ pub fn end(rt: &impl Print, state: &mut [u64; STATE_CELLS]) {
 pub fn load_file(rt: &impl Print, state: &mut [u64; STATE_CELLS], file: &[u8]) {
     let before = *state;
     say(rt, b"LOAD");
-    load_answer(rt, &load(state, file));
+    load_answer(rt, load(state, file));
     tell_state(rt, &before, state);
     say(rt, b"\n");
 }

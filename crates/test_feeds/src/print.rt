@@ -24,14 +24,14 @@ pub fn call_answer(rt: &impl Print, a: CallAnswer) {
     number(rt, a.line);
 }
 
-pub fn piece_answer(rt: &impl Print, a: &FeedAnswer) {
+pub fn piece_answer(rt: &impl Print, a: FeedAnswer) {
     number(rt, a.number);
     number(rt, a.advice);
     number(rt, a.line);
     number(rt, a.column);
 }
 
-pub fn load_answer(rt: &impl Print, a: &LoadAnswer) {
+pub fn load_answer(rt: &impl Print, a: LoadAnswer) {
     number(rt, a.number);
     number(rt, a.line);
     number(rt, a.column);
