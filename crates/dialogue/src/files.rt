@@ -1,5 +1,8 @@
 // Files by name.
 use crate::page::say;
+use std::fs;
+use std::io::{Eprint, Print, Read};
+use std::rt::Files;
 
 #[derive(Drop)]
 pub struct FileRead {
@@ -19,58 +22,64 @@ fn reached(from: usize, more: usize, most: usize) -> usize {
 }
 
 // One read, behind what was read before.
-fn read_more(fd: i32, file: &mut [u8], mut r: FileRead) -> FileRead {
+fn read_more<S: Read>(source: &mut S, file: &mut [u8], mut r: FileRead) -> FileRead {
     let from = r.length;
     if from >= file.len() {
         r.is_done = true;
         return r;
     }
-    let got = libc::read(fd, &mut file[from..]);
-    let n = io::count(got, file);
-    r.has_failed = got < 0;
-    r.is_done = n == 0;
-    r.length = reached(from, n, file.len());
+    match source.read(&mut file[from..]) {
+        Ok(n) => {
+            r.is_done = n == 0;
+            r.length = reached(from, n, file.len());
+        }
+        Err(_) => {
+            r.has_failed = true;
+            r.is_done = true;
+        }
+    }
     r
 }
 
-fn read_open(fd: i32, file: &mut [u8]) -> FileRead {
+fn read_open<S: Read>(source: &mut S, file: &mut [u8]) -> FileRead {
     let mut r = FileRead {
         length: 0,
         has_failed: false,
         is_done: false,
     };
-    let mut turns = u64::MAX;
-    while turns > 0 && !r.is_done {
-        r = read_more(fd, file, r);
-        turns -= 1;
+    for _ in 0..u64::MAX {
+        if r.is_done {
+            return r;
+        }
+        r = read_more(source, file, r);
     }
     r
+}
+
+// Opens a file for reading. A path is text here: one whose bytes are none names no file.
+pub fn open_file<R: Files>(rt: &R, path: &[u8]) -> Option<R::File> {
+    let name = str::from_utf8(path).ok()?;
+    fs::open(rt, name).ok()
 }
 
 // The whole file, or as much of it as there is room for. A directory opens and cannot be read.
-pub fn read_file(path: &[u8], file: &mut [u8]) -> FileRead {
-    let fd = os::open_read(path);
-    if fd < 0 {
-        return FileRead {
+pub fn read_file(rt: &impl Files, path: &[u8], file: &mut [u8]) -> FileRead {
+    match open_file(rt, path) {
+        Some(mut source) => read_open(&mut source, file),
+        None => FileRead {
             length: 0,
             has_failed: true,
             is_done: true,
-        };
+        },
     }
-    let r = read_open(fd, file);
-    libc::close(fd);
-    r
 }
 
 // Writes the file anew. False where it cannot be made or not all of it could be written.
-pub fn write_file(path: &[u8], content: &[u8]) -> bool {
-    let fd = os::open_overwrite(path);
-    if fd < 0 {
-        return false;
+pub fn write_file(rt: &impl Files, path: &[u8], content: &[u8]) -> bool {
+    match str::from_utf8(path) {
+        Ok(name) => fs::write(rt, name, content).is_ok(),
+        Err(_) => false,
     }
-    let is_written = io::write_all(fd, content);
-    let is_closed = libc::close(fd) == 0;
-    is_written && is_closed
 }
 
 fn is_terminal(path: &[u8]) -> bool {
@@ -81,16 +90,16 @@ fn is_terminal(path: &[u8]) -> bool {
 }
 
 // A listing, to the terminal or a file.
-pub fn deliver(path: &[u8], listing: &[u8]) {
+pub fn deliver(rt: &(impl Files + Print + Eprint), path: &[u8], listing: &[u8]) {
     if is_terminal(path) {
-        say(listing);
+        say(rt, listing);
         return;
     }
-    if !write_file(path, listing) {
-        not_found();
+    if !write_file(rt, path, listing) {
+        not_found(rt);
     }
 }
 
-pub fn not_found() {
-    say(b"FILE NOT FOUND!!!\n");
+pub fn not_found(rt: &(impl Print + Eprint)) {
+    say(rt, b"FILE NOT FOUND!!!\n");
 }

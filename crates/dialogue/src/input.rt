@@ -1,8 +1,10 @@
 // Standard input by lines. It is read in pieces into the lent bytes `keys`; a line is put into the lent bytes `line`.
 
 use crate::page::between;
+use std::io;
+use std::io::{Eprint, Read};
 
-#[derive(Drop)]
+#[derive(Clone, Copy)]
 pub struct Reader {
     // The bytes of `keys` from at to end were read and not yet taken.
     pub at: usize,
@@ -30,17 +32,24 @@ pub fn new_reader() -> Reader {
 }
 
 // A failed read ends the input as its end does, so standard error is told.
-fn tell_failed(got: isize) {
-    if got < 0 {
-        os::fail(b"standard input");
+fn tell_failed(rt: &impl Eprint, e: io::Error) {
+    let _ = eprintln!(rt; "standard input: {e}");
+}
+
+// One read of standard input: how many bytes of `keys` it gave.
+fn read_keys<S: Read>(rt: &impl Eprint, source: &mut S, keys: &mut [u8]) -> usize {
+    match source.read(keys) {
+        Ok(n) => n,
+        Err(e) => {
+            tell_failed(rt, e);
+            0
+        }
     }
 }
 
 // Reads the next piece.
-fn refilled(keys: &mut [u8], mut r: Reader) -> Reader {
-    let got = libc::read(libc::STDIN_FILENO, keys);
-    tell_failed(got);
-    let n = io::count(got, keys);
+fn refilled<S: Read>(rt: &impl Eprint, source: &mut S, keys: &mut [u8], mut r: Reader) -> Reader {
+    let n = read_keys(rt, source, keys);
     r.at = 0;
     r.end = n;
     if n == 0 {
@@ -66,28 +75,41 @@ fn taken_in(line: &mut [u8], mut r: Reader, byte: u8) -> Reader {
     r
 }
 
-fn one_byte(keys: &mut [u8], line: &mut [u8], mut r: Reader) -> Reader {
+fn one_byte<S: Read>(
+    rt: &impl Eprint,
+    source: &mut S,
+    keys: &mut [u8],
+    line: &mut [u8],
+    mut r: Reader,
+) -> Reader {
     let at = r.at;
     if at >= r.end {
-        return refilled(keys, r);
+        return refilled(rt, source, keys, r);
     }
     if at >= keys.len() {
-        return refilled(keys, r);
+        return refilled(rt, source, keys, r);
     }
     r.at = at + 1;
     taken_in(line, r, keys[at])
 }
 
 // The next line, read to its end also where it is overlong. Behind the last line stands one with no bytes.
-pub fn read_line(keys: &mut [u8], line: &mut [u8], last: Reader) -> Reader {
+pub fn read_line<S: Read>(
+    rt: &impl Eprint,
+    source: &mut S,
+    keys: &mut [u8],
+    line: &mut [u8],
+    last: Reader,
+) -> Reader {
     let mut r = last;
     r.length = 0;
     r.is_long = false;
     r.is_whole = last.is_over;
-    let mut turns = u64::MAX;
-    while turns > 0 && !r.is_whole {
-        r = one_byte(keys, line, r);
-        turns -= 1;
+    for _ in 0..u64::MAX {
+        if r.is_whole {
+            return r;
+        }
+        r = one_byte(rt, source, keys, line, r);
     }
     r
 }

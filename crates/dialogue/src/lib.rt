@@ -14,6 +14,9 @@ use linker::{FEED_CELLS, STATE_CELLS, WORK_CELLS};
 use obey::{obey, obey_with};
 use page::say;
 use rules::limits::LONGEST_FILE;
+use std::env::FillError;
+use std::io::{Eprint, Input, Print, Read};
+use std::rt::{Env, Files};
 
 fn capital(byte: u8) -> u8 {
     if byte >= 97 {
@@ -61,6 +64,7 @@ fn has_operand(letter: u8) -> bool {
 
 // The command on its operand, which is the line just read.
 fn with_line(
+    rt: &(impl Files + Print + Eprint),
     state: &mut [u64],
     work: &mut [u64],
     feed: &mut [u64],
@@ -70,19 +74,21 @@ fn with_line(
     r: Reader,
 ) {
     if r.is_long {
-        say(b"?\n");
+        say(rt, b"?\n");
         return;
     }
     let operand = text_of(line, r);
     if operand.len() == 0 {
-        say(b"?\n");
+        say(rt, b"?\n");
         return;
     }
-    obey_with(state, work, feed, room, letter, operand);
+    obey_with(rt, state, work, feed, room, letter, operand);
 }
 
 // The line behind a command's letter is read, and the command is obeyed on it.
-fn obey_on_line(
+fn obey_on_line<S: Read>(
+    rt: &(impl Files + Print + Eprint),
+    source: &mut S,
     state: &mut [u64],
     work: &mut [u64],
     feed: &mut [u64],
@@ -92,8 +98,8 @@ fn obey_on_line(
     letter: u8,
     last: Reader,
 ) -> Reader {
-    let r = read_line(keys, line, last);
-    with_line(state, work, feed, room, letter, line, r);
+    let r = read_line(rt, source, keys, line, last);
+    with_line(rt, state, work, feed, room, letter, line, r);
     r
 }
 
@@ -103,7 +109,9 @@ fn quit(mut r: Reader) -> Reader {
 }
 
 // One command and the prompt behind it.
-fn turn(
+fn turn<S: Read>(
+    rt: &(impl Files + Print + Eprint),
+    source: &mut S,
     state: &mut [u64],
     work: &mut [u64],
     feed: &mut [u64],
@@ -112,7 +120,7 @@ fn turn(
     line: &mut [u8],
     last: Reader,
 ) -> Reader {
-    let r = read_line(keys, line, last);
+    let r = read_line(rt, source, keys, line, last);
     if is_end(r) {
         return quit(r);
     }
@@ -121,16 +129,18 @@ fn turn(
         return quit(r);
     }
     if has_operand(letter) {
-        let o = obey_on_line(state, work, feed, room, keys, line, letter, r);
-        say(b"*\n");
+        let o = obey_on_line(rt, source, state, work, feed, room, keys, line, letter, r);
+        say(rt, b"*\n");
         return o;
     }
-    obey(state, room, letter);
-    say(b"*\n");
+    obey(rt, state, room, letter);
+    say(rt, b"*\n");
     r
 }
 
-fn talk(
+fn talk<S: Read>(
+    rt: &(impl Files + Print + Eprint),
+    source: &mut S,
     state: &mut [u64],
     work: &mut [u64],
     feed: &mut [u64],
@@ -139,10 +149,11 @@ fn talk(
     line: &mut [u8],
 ) {
     let mut r = new_reader();
-    let mut turns = u64::MAX;
-    while turns > 0 && !r.has_quit {
-        r = turn(state, work, feed, room, keys, line, r);
-        turns -= 1;
+    for _ in 0..u64::MAX {
+        if r.has_quit {
+            return;
+        }
+        r = turn(rt, source, state, work, feed, room, keys, line, r);
     }
 }
 
@@ -156,7 +167,7 @@ const READ_AHEAD: usize = 4096;
 const LONGEST_COMMAND: usize = 4096;
 
 // The whole dialogue, in memory of its own.
-pub fn run() {
+pub fn run(rt: &(impl Files + Input + Print + Eprint)) {
     let mut state_cells = [0u64; STATE_CELLS];
     let mut work_cells = [0u64; WORK_CELLS];
     let mut feed_cells = [0u64; FEED_CELLS];
@@ -170,19 +181,28 @@ pub fn run() {
     let keys: &mut [u8] = &mut keys_bytes;
     let line: &mut [u8] = &mut line_bytes;
     linker::lnk100_reset(state);
-    say(b"LNK100 REL. 1.00\n*\n");
-    talk(state, work, feed, room, keys, line);
-    say(b"END LNK100\n");
+    say(rt, b"LNK100 REL. 1.00\n*\n");
+    talk(rt, &mut rt.reader(), state, work, feed, room, keys, line);
+    say(rt, b"END LNK100\n");
+}
+
+// Is there an argument behind the program's name? Also one that does not fit, or is no text, is one.
+fn has_argument(rt: &impl Env) -> bool {
+    let mut bytes = [0u8; 1];
+    match rt.arg(1, &mut bytes) {
+        Ok(_) => true,
+        Err(FillError::TooLong) => true,
+        Err(FillError::NotPresent) => false,
+    }
 }
 
 // The program: the dialogue, if it was started without arguments. It takes none, so with any it only says how it is used.
-pub fn start() {
-    if 1 < os::arg_count() {
-        io::write_all(
-            libc::STDERR_FILENO,
-            b"usage: lnk100 < COMMANDS: it takes no arguments, but a command (L I F B R M S U E X) or operand on each line\n",
+pub fn start(rt: &(impl Files + Input + Print + Eprint + Env)) {
+    if has_argument(rt) {
+        let _ = eprintln!(rt;
+            "usage: lnk100 < COMMANDS: it takes no arguments, but a command (L I F B R M S U E X) or operand on each line"
         );
         return;
     }
-    run();
+    run(rt);
 }

@@ -1,6 +1,7 @@
 // What M, S, U and E print of a state.
 use crate::page::{front, put_high, put_name, put_number, put_text, say};
 use rules::limits::MOST_SYMBOLS;
+use std::io::{Eprint, Print};
 
 const SYMBOLS: u64 = MOST_SYMBOLS as u64;
 
@@ -114,10 +115,10 @@ fn put_count(page: &mut [u8], at: usize, count: u64) -> usize {
 }
 
 // What E prints once the image is in its file.
-pub fn tell_end(state: &[u64], page: &mut [u8]) {
+pub fn tell_end(rt: &(impl Print + Eprint), state: &[u64], page: &mut [u8]) {
     let memory = linker::lnk100_memory(state);
     let mut end = put_first_defined(state, page);
     end = put_high(page, end, memory.high);
     end = put_count(page, end, undefined_count(state));
-    say(front(page, end));
+    say(rt, front(page, end));
 }

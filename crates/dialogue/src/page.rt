@@ -1,5 +1,6 @@
 // Text put together in a lent page. `at` is where the next byte goes, and each function answers where the one after it goes.
 // What does not fit is left out; no text of the dialogue is that long.
+use std::io::{Eprint, Print};
 
 pub fn put(page: &mut [u8], at: usize, byte: u8) -> usize {
     if at < page.len() {
@@ -74,9 +75,9 @@ pub fn front(page: &[u8], n: usize) -> &[u8] {
     between(page, 0, n)
 }
 
-// Writes to standard output; where that fails, standard error is told.
-pub fn say(text: &[u8]) {
-    if !io::write_all(libc::STDOUT_FILENO, text) {
-        os::fail(b"standard output");
+// Writes to standard output; where that fails, standard error is told. Where that fails too, nobody is left to be told.
+pub fn say(rt: &(impl Print + Eprint), text: &[u8]) {
+    if let Err(e) = rt.write_all(text) {
+        let _ = eprintln!(rt; "standard output: {e}");
     }
 }

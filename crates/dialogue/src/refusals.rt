@@ -2,6 +2,7 @@
 use crate::page::{front, put, put_number, put_text, say};
 use answers::answer_name;
 use rules::answer::{DONE, FeedAnswer, LoadAnswer, RESET};
+use std::io::{Eprint, Print};
 
 fn put_answer(page: &mut [u8], at: usize, number: u64) -> usize {
     let n = answer_name(number);
@@ -29,37 +30,37 @@ fn put_fault(page: &mut [u8], at: usize, number: u64, line: u64, column: u64) ->
     put(page, end, b'\n')
 }
 
-fn tell_at(page: &mut [u8], number: u64, line: u64, column: u64) {
+fn tell_at(rt: &(impl Print + Eprint), page: &mut [u8], number: u64, line: u64, column: u64) {
     if number == RESET {
-        say(b"RESET!!!\n");
+        say(rt, b"RESET!!!\n");
     }
     let mut end = put_text(page, 0, b"F ");
     end = put_fault(page, end, number, line, column);
-    say(front(page, end));
+    say(rt, front(page, end));
 }
 
 // A load alone names a column.
-pub fn load_refused(page: &mut [u8], a: LoadAnswer) {
-    tell_at(page, a.number, a.line, a.column);
+pub fn load_refused(rt: &(impl Print + Eprint), page: &mut [u8], a: LoadAnswer) {
+    tell_at(rt, page, a.number, a.line, a.column);
 }
 
-pub fn refused(page: &mut [u8], number: u64, line: u64) {
-    tell_at(page, number, line, 0);
+pub fn refused(rt: &(impl Print + Eprint), page: &mut [u8], number: u64, line: u64) {
+    tell_at(rt, page, number, line, 0);
 }
 
 // Nothing where the call was done.
-pub fn tell(page: &mut [u8], number: u64, line: u64) {
+pub fn tell(rt: &(impl Print + Eprint), page: &mut [u8], number: u64, line: u64) {
     if number != DONE {
-        refused(page, number, line);
+        refused(rt, page, number, line);
     }
 }
 
 // The fault that a piece brought to light, if it brought one.
-pub fn advise(page: &mut [u8], a: FeedAnswer) {
+pub fn advise(rt: &(impl Print + Eprint), page: &mut [u8], a: FeedAnswer) {
     if a.advice == 0 {
         return;
     }
     let mut end = put_text(page, 0, b"ADVICE ");
     end = put_fault(page, end, a.advice, a.line, a.column);
-    say(front(page, end));
+    say(rt, front(page, end));
 }

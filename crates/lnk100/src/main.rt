@@ -2,6 +2,6 @@
 // MAIN and the library of document 01, then commands in lower case, MAIN alone, and the manual's VCADD.
 #![tactic(auto)]
 
-fn main() {
-    dialogue::start();
+fn main(rt: HostRuntime) {
+    dialogue::start(&rt);
 }

@@ -8,18 +8,19 @@ use crate::lend::{
 use crate::memory::{MORE_FEED, MORE_WORK, tell_feed, tell_state, tell_work};
 use crate::print::{call_answer, load_answer, number, piece_answer, say, title};
 use linker::{FEED_CELLS, STATE_CELLS, WORK_CELLS};
+use std::io::Print;
 
 // ---- the four calls
 
-fn open_and_feed(feed: &mut [u64; MORE_FEED], size: usize) {
-    say(b"OPEN");
-    call_answer(open_in_front(feed, size));
-    say(b", FEED");
-    piece_answer(feed_in_front(feed, size, b"A"));
+fn open_and_feed(rt: &impl Print, feed: &mut [u64; MORE_FEED], size: usize) {
+    say(rt, b"OPEN");
+    call_answer(rt, open_in_front(feed, size));
+    say(rt, b", FEED");
+    piece_answer(rt, feed_in_front(feed, size, b"A"));
 }
 
 // All four on the first cells.
-fn four_calls(feed: &mut [u64; MORE_FEED], size: usize) {
+fn four_calls(rt: &impl Print, feed: &mut [u64; MORE_FEED], size: usize) {
     let before = *feed;
     let mut state = [0u64; STATE_CELLS];
     let mut work = [5u64; MORE_WORK];
@@ -28,39 +29,39 @@ fn four_calls(feed: &mut [u64; MORE_FEED], size: usize) {
         state: STATE_CELLS,
         work: WORK_CELLS,
     };
-    open_and_feed(feed, size);
-    say(b", CLOSE");
-    load_answer(close_in_front(feed, &mut state, &mut work, sizes));
-    say(b", DROP");
-    call_answer(drop_in_front(feed, size));
-    tell_feed(&before, feed, b"");
-    tell_state(&[0u64; STATE_CELLS], &state);
-    tell_work(&work, WORK_CELLS);
-    say(b"\n");
+    open_and_feed(rt, feed, size);
+    say(rt, b", CLOSE");
+    load_answer(rt, close_in_front(feed, &mut state, &mut work, sizes));
+    say(rt, b", DROP");
+    call_answer(rt, drop_in_front(feed, size));
+    tell_feed(rt, &before, feed, b"");
+    tell_state(rt, &[0u64; STATE_CELLS], &state);
+    tell_work(rt, &work, WORK_CELLS);
+    say(rt, b"\n");
 }
 
 // ---- lengths
 
-fn lend(size: usize, cell: u64) {
+fn lend(rt: &impl Print, size: usize, cell: u64) {
     let mut feed = [cell; MORE_FEED];
-    say(b"cells");
-    number(size as u64);
-    say(b" of");
-    number(cell);
-    say(b": ");
-    four_calls(&mut feed, size);
+    say(rt, b"cells");
+    number(rt, size as u64);
+    say(rt, b" of");
+    number(rt, cell);
+    say(rt, b": ");
+    four_calls(rt, &mut feed, size);
 }
 
-fn lengths() {
-    title(b"feed memory of a wrong length");
-    lend(0, 0);
-    lend(8192, 0);
-    lend(8194, 0);
-    lend(0, 5);
-    lend(8192, 5);
-    lend(8194, 5);
-    title(b"of the right one, damaged");
-    lend(8193, 5);
+fn lengths(rt: &impl Print) {
+    title(rt, b"feed memory of a wrong length");
+    lend(rt, 0, 0);
+    lend(rt, 8192, 0);
+    lend(rt, 8194, 0);
+    lend(rt, 0, 5);
+    lend(rt, 8192, 5);
+    lend(rt, 8194, 5);
+    title(rt, b"of the right one, damaged");
+    lend(rt, 8193, 5);
 }
 
 // ---- damage
@@ -77,96 +78,99 @@ fn feed_eleven(feed: &mut [u64; MORE_FEED]) {
     feed_part(feed, b"3 ***TITLE\n", 0, 11);
 }
 
-fn tell_cell(at: usize, cell: u64) {
-    say(b"cell");
-    number(at as u64);
-    say(b" is");
-    number(cell);
-    say(b": ");
+fn tell_cell(rt: &impl Print, at: usize, cell: u64) {
+    say(rt, b"cell");
+    number(rt, at as u64);
+    say(rt, b" is");
+    number(rt, cell);
+    say(rt, b": ");
 }
 
 // A feed of 11 bytes with one cell changed.
-fn eleven_with(at: usize, cell: u64) {
+fn eleven_with(rt: &impl Print, at: usize, cell: u64) {
     let mut feed = [0u64; MORE_FEED];
     feed_eleven(&mut feed);
     set(&mut feed, at, cell);
-    tell_cell(at, cell);
-    four_calls(&mut feed, FEED_CELLS);
+    tell_cell(rt, at, cell);
+    four_calls(rt, &mut feed, FEED_CELLS);
 }
 
 // The same where it is still sound: an open load.
-fn eleven_sound(at: usize, cell: u64) {
+fn eleven_sound(rt: &impl Print, at: usize, cell: u64) {
     let mut feed = [0u64; MORE_FEED];
     feed_eleven(&mut feed);
     set(&mut feed, at, cell);
-    tell_cell(at, cell);
-    open(&mut feed, FEED_CELLS);
+    tell_cell(rt, at, cell);
+    open(rt, &mut feed, FEED_CELLS);
 }
 
 // Zero memory but for the first cell and another one.
-fn zero_with(mark: u64, at: usize, cell: u64) {
+fn zero_with(rt: &impl Print, mark: u64, at: usize, cell: u64) {
     let mut feed = [0u64; MORE_FEED];
     set(&mut feed, 0, mark);
     set(&mut feed, at, cell);
-    tell_cell(at, cell);
-    four_calls(&mut feed, FEED_CELLS);
+    tell_cell(rt, at, cell);
+    four_calls(rt, &mut feed, FEED_CELLS);
 }
 
-fn zero_sound(mark: u64, at: usize, cell: u64) {
+fn zero_sound(rt: &impl Print, mark: u64, at: usize, cell: u64) {
     let mut feed = [0u64; MORE_FEED];
     set(&mut feed, 0, mark);
     set(&mut feed, at, cell);
-    tell_cell(at, cell);
-    open(&mut feed, FEED_CELLS);
+    tell_cell(rt, at, cell);
+    open(rt, &mut feed, FEED_CELLS);
 }
 
 // Cell 2 is 673100, the bytes `LE` and LF; a byte more is 16777216 there, and the last of the eight 72057594037927936.
-fn eleven_bytes() {
-    title(b"11 bytes, and another total");
-    eleven_with(0, 0);
-    eleven_with(0, 1);
-    eleven_with(0, 11);
-    eleven_with(0, 65538);
-    eleven_with(0, 65539);
-    eleven_with(0, 18446744073709551615);
-    title(b"11 bytes, and a byte behind the total");
-    eleven_with(2, 17450316);
-    eleven_with(2, 72057594038601036);
-    eleven_with(2, 18446744073709551615);
-    eleven_with(3, 1);
-    eleven_with(3, 9223372036854775808);
-    eleven_with(8191, 1);
-    eleven_with(8192, 1);
-    eleven_with(8192, 9223372036854775808);
+fn eleven_bytes(rt: &impl Print) {
+    title(rt, b"11 bytes, and another total");
+    eleven_with(rt, 0, 0);
+    eleven_with(rt, 0, 1);
+    eleven_with(rt, 0, 11);
+    eleven_with(rt, 0, 65538);
+    eleven_with(rt, 0, 65539);
+    eleven_with(rt, 0, 18446744073709551615);
+    title(rt, b"11 bytes, and a byte behind the total");
+    eleven_with(rt, 2, 17450316);
+    eleven_with(rt, 2, 72057594038601036);
+    eleven_with(rt, 2, 18446744073709551615);
+    eleven_with(rt, 3, 1);
+    eleven_with(rt, 3, 9223372036854775808);
+    eleven_with(rt, 8191, 1);
+    eleven_with(rt, 8192, 1);
+    eleven_with(rt, 8192, 9223372036854775808);
 }
 
-fn sound_ones() {
-    title(b"sound: 11 bytes as they were, other bytes, zeros behind them");
-    eleven_sound(0, 12);
-    eleven_sound(1, 18446744073709551615);
-    eleven_sound(2, 16777215);
-    eleven_sound(0, 13);
-    eleven_sound(0, 65537);
-    title(b"sound: 65,536 and 65,535 bytes");
-    zero_sound(65537, 8192, 18446744073709551615);
-    zero_sound(65536, 8192, 72057594037927935);
+fn sound_ones(rt: &impl Print) {
+    title(
+        rt,
+        b"sound: 11 bytes as they were, other bytes, zeros behind them",
+    );
+    eleven_sound(rt, 0, 12);
+    eleven_sound(rt, 1, 18446744073709551615);
+    eleven_sound(rt, 2, 16777215);
+    eleven_sound(rt, 0, 13);
+    eleven_sound(rt, 0, 65537);
+    title(rt, b"sound: 65,536 and 65,535 bytes");
+    zero_sound(rt, 65537, 8192, 18446744073709551615);
+    zero_sound(rt, 65536, 8192, 72057594037927935);
 }
 
-fn one_byte() {
-    title(b"none open, and one byte");
-    zero_with(0, 1, 1);
-    zero_with(0, 4096, 256);
-    zero_with(0, 8192, 72057594037927936);
-    title(b"open without bytes, and one byte");
-    zero_with(1, 1, 1);
-    zero_with(1, 1, 72057594037927936);
-    zero_with(1, 8192, 1);
-    title(b"65,535 bytes, and the 65,536th");
-    zero_with(65536, 8192, 72057594037927936);
-    title(b"overfull, and one byte");
-    zero_with(65538, 1, 1);
-    zero_with(65538, 4096, 256);
-    zero_with(65538, 8192, 72057594037927936);
+fn one_byte(rt: &impl Print) {
+    title(rt, b"none open, and one byte");
+    zero_with(rt, 0, 1, 1);
+    zero_with(rt, 0, 4096, 256);
+    zero_with(rt, 0, 8192, 72057594037927936);
+    title(rt, b"open without bytes, and one byte");
+    zero_with(rt, 1, 1, 1);
+    zero_with(rt, 1, 1, 72057594037927936);
+    zero_with(rt, 1, 8192, 1);
+    title(rt, b"65,535 bytes, and the 65,536th");
+    zero_with(rt, 65536, 8192, 72057594037927936);
+    title(rt, b"overfull, and one byte");
+    zero_with(rt, 65538, 1, 1);
+    zero_with(rt, 65538, 4096, 256);
+    zero_with(rt, 65538, 8192, 72057594037927936);
 }
 
 // ---- cell by cell
@@ -216,39 +220,39 @@ fn count_refused(
     refused
 }
 
-fn each_from(feed: &mut [u64; MORE_FEED], first: usize) {
+fn each_from(rt: &impl Print, feed: &mut [u64; MORE_FEED], first: usize) {
     let before = *feed;
     let mut state = [0u64; STATE_CELLS];
     let mut work = [5u64; MORE_WORK];
     let refused = count_refused(feed, &mut state, &mut work, first);
-    say(b"cells from");
-    number(first as u64);
-    say(b" on made 1 in turn: all four calls 2 for");
-    number(refused);
-    tell_feed(&before, feed, b"");
-    tell_state(&[0u64; STATE_CELLS], &state);
-    tell_work(&work, 0);
-    say(b"\n");
+    say(rt, b"cells from");
+    number(rt, first as u64);
+    say(rt, b" on made 1 in turn: all four calls 2 for");
+    number(rt, refused);
+    tell_feed(rt, &before, feed, b"");
+    tell_state(rt, &[0u64; STATE_CELLS], &state);
+    tell_work(rt, &work, 0);
+    say(rt, b"\n");
 }
 
-fn cell_by_cell() {
+fn cell_by_cell(rt: &impl Print) {
     let mut feed = [0u64; MORE_FEED];
-    title(b"cell by cell: none open, open, 11 bytes, overfull");
-    each_from(&mut feed, 1);
+    title(rt, b"cell by cell: none open, open, 11 bytes, overfull");
+    each_from(rt, &mut feed, 1);
     set(&mut feed, 0, 1);
-    each_from(&mut feed, 1);
+    each_from(rt, &mut feed, 1);
     set(&mut feed, 0, 0);
     feed_eleven(&mut feed);
-    each_from(&mut feed, 3);
+    each_from(rt, &mut feed, 3);
     feed = [0u64; MORE_FEED];
     set(&mut feed, 0, 65538);
-    each_from(&mut feed, 1);
+    each_from(rt, &mut feed, 1);
 }
 
-pub fn damage() {
-    lengths();
-    eleven_bytes();
-    sound_ones();
-    one_byte();
-    cell_by_cell();
+pub fn damage(rt: &impl Print) {
+    lengths(rt);
+    eleven_bytes(rt);
+    sound_ones(rt);
+    one_byte(rt);
+    cell_by_cell(rt);
 }

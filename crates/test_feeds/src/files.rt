@@ -6,6 +6,7 @@ use crate::memory::{MORE_FEED, MORE_WORK, feed_zero, holds, same_state, work_zer
 use crate::print::{load_answer, number, piece_answer, say};
 use linker::{STATE_CELLS, WORK_CELLS};
 use rules::answer::{FeedAnswer, LoadAnswer};
+use std::io::Print;
 use test_script::between;
 
 // ---- counting
@@ -48,7 +49,7 @@ fn closes_as(
 // ---- a cut in two
 
 // Of one cut: the answers of its two pieces, whether feed memory held just what was fed, and whether the close was as LOAD.
-#[derive(Drop)]
+#[derive(Clone, Copy)]
 pub struct Cut {
     pub first: FeedAnswer,
     pub second: FeedAnswer,
@@ -109,7 +110,7 @@ fn same_advice(a: FeedAnswer, b: FeedAnswer) -> bool {
 }
 
 // The answers of a cut's two pieces, where they are not those of the cut in front of it.
-fn tell_cut(cut: usize, now: Cut, last: Cut) {
+fn tell_cut(rt: &impl Print, cut: usize, now: Cut, last: Cut) {
     if cut != 0 {
         if same_advice(now.first, last.first) {
             if same_advice(now.second, last.second) {
@@ -117,33 +118,34 @@ fn tell_cut(cut: usize, now: Cut, last: Cut) {
             }
         }
     }
-    say(b"cut from");
-    number(cut as u64);
-    say(b":");
-    piece_answer(now.first);
-    say(b",");
-    piece_answer(now.second);
-    say(b"\n");
+    say(rt, b"cut from");
+    number(rt, cut as u64);
+    say(rt, b":");
+    piece_answer(rt, now.first);
+    say(rt, b",");
+    piece_answer(rt, now.second);
+    say(rt, b"\n");
 }
 
-fn tell_cuts(cuts: u64, held: u64, as_load: u64) {
-    say(b"cuts");
-    number(cuts);
-    say(b": feed held the bytes");
-    number(held);
-    say(b", close as LOAD");
-    number(as_load);
-    say(b"\n");
+fn tell_cuts(rt: &impl Print, cuts: u64, held: u64, as_load: u64) {
+    say(rt, b"cuts");
+    number(rt, cuts);
+    say(rt, b": feed held the bytes");
+    number(rt, held);
+    say(rt, b", close as LOAD");
+    number(rt, as_load);
+    say(rt, b"\n");
 }
 
 fn every_cut(
+    rt: &impl Print,
     file: &[u8],
     from: &[u64; STATE_CELLS],
     loaded: &[u64; STATE_CELLS],
     answer: LoadAnswer,
 ) {
     let mut last = in_two(file, 0, from, loaded, answer);
-    tell_cut(0, last, last);
+    tell_cut(rt, 0, last, last);
     let mut held = counted(0, last.held);
     let mut as_load = counted(0, last.as_load);
     let mut cuts = 1;
@@ -151,49 +153,50 @@ fn every_cut(
     while cut < file.len() {
         cut += 1;
         let now = in_two(file, cut, from, loaded, answer);
-        tell_cut(cut, now, last);
+        tell_cut(rt, cut, now, last);
         held = counted(held, now.held);
         as_load = counted(as_load, now.as_load);
         cuts = counted(cuts, true);
         last = now;
     }
-    tell_cuts(cuts, held, as_load);
+    tell_cuts(rt, cuts, held, as_load);
 }
 
 // ---- single bytes
 
 // A piece that advises, or is refused.
-fn tell_piece(number_of_piece: u64, a: FeedAnswer) {
+fn tell_piece(rt: &impl Print, number_of_piece: u64, a: FeedAnswer) {
     if a.number == 0 {
         if a.advice == 0 {
             return;
         }
     }
-    say(b"piece");
-    number(number_of_piece);
-    say(b":");
-    piece_answer(a);
-    say(b"\n");
+    say(rt, b"piece");
+    number(rt, number_of_piece);
+    say(rt, b":");
+    piece_answer(rt, a);
+    say(rt, b"\n");
 }
 
-fn tell_close(as_load: bool) {
+fn tell_close(rt: &impl Print, as_load: bool) {
     if as_load {
-        say(b", close as LOAD\n");
+        say(rt, b", close as LOAD\n");
         return;
     }
-    say(b", close NOT as LOAD\n");
+    say(rt, b", close NOT as LOAD\n");
 }
 
-fn tell_pieces(pieces: u64, held: u64, as_load: bool) {
-    say(b"pieces");
-    number(pieces);
-    say(b": feed held the bytes");
-    number(held);
-    tell_close(as_load);
+fn tell_pieces(rt: &impl Print, pieces: u64, held: u64, as_load: bool) {
+    say(rt, b"pieces");
+    number(rt, pieces);
+    say(rt, b": feed held the bytes");
+    number(rt, held);
+    tell_close(rt, as_load);
 }
 
 // Feeds a piece and tells its advice; 1 more where feed memory then holds just what was fed.
 fn feed_counted(
+    rt: &impl Print,
     feed: &mut [u64; MORE_FEED],
     file: &[u8],
     from: usize,
@@ -202,11 +205,12 @@ fn feed_counted(
     held: u64,
 ) -> u64 {
     let a = feed_part(feed, file, from, to);
-    tell_piece(pieces, a);
+    tell_piece(rt, pieces, a);
     counted(held, holds(feed, between(file, 0, to)))
 }
 
 fn single_bytes(
+    rt: &impl Print,
     file: &[u8],
     from: &[u64; STATE_CELLS],
     loaded: &[u64; STATE_CELLS],
@@ -219,13 +223,14 @@ fn single_bytes(
     let mut at = 0;
     while at < file.len() {
         pieces = counted(pieces, true);
-        held = feed_counted(&mut feed, file, at, at + 1, pieces, held);
+        held = feed_counted(rt, &mut feed, file, at, at + 1, pieces, held);
         at += 1;
     }
-    tell_pieces(pieces, held, closes_as(&mut feed, from, loaded, answer));
+    tell_pieces(rt, pieces, held, closes_as(&mut feed, from, loaded, answer));
 }
 
 fn with_empty_pieces(
+    rt: &impl Print,
     file: &[u8],
     from: &[u64; STATE_CELLS],
     loaded: &[u64; STATE_CELLS],
@@ -234,28 +239,28 @@ fn with_empty_pieces(
     let mut feed = [0u64; MORE_FEED];
     open_feed(&mut feed);
     let mut pieces = counted(0, true);
-    let mut held = feed_counted(&mut feed, file, 0, 0, pieces, 0);
+    let mut held = feed_counted(rt, &mut feed, file, 0, 0, pieces, 0);
     let mut at = 0;
     while at < file.len() {
         pieces = counted(pieces, true);
-        held = feed_counted(&mut feed, file, at, at + 1, pieces, held);
+        held = feed_counted(rt, &mut feed, file, at, at + 1, pieces, held);
         pieces = counted(pieces, true);
-        held = feed_counted(&mut feed, file, at + 1, at + 1, pieces, held);
+        held = feed_counted(rt, &mut feed, file, at + 1, at + 1, pieces, held);
         at += 1;
     }
-    tell_pieces(pieces, held, closes_as(&mut feed, from, loaded, answer));
+    tell_pieces(rt, pieces, held, closes_as(&mut feed, from, loaded, answer));
 }
 
 // ---- the file
 
 // From this state, which is afterwards as LOAD leaves it.
-pub fn feed_file(file: &[u8], state: &mut [u64; STATE_CELLS]) {
+pub fn feed_file(rt: &impl Print, file: &[u8], state: &mut [u64; STATE_CELLS]) {
     let from = *state;
     let answer = load(state, file);
-    say(b"LOAD");
-    load_answer(answer);
-    say(b"\n");
-    every_cut(file, &from, state, answer);
-    single_bytes(file, &from, state, answer);
-    with_empty_pieces(file, &from, state, answer);
+    say(rt, b"LOAD");
+    load_answer(rt, answer);
+    say(rt, b"\n");
+    every_cut(rt, file, &from, state, answer);
+    single_bytes(rt, file, &from, state, answer);
+    with_empty_pieces(rt, file, &from, state, answer);
 }

@@ -39,7 +39,8 @@ use linker::STATE_CELLS;
 use memory::MORE_FEED;
 use obey::play_line;
 use pieces::TEXT;
-use test_script::between;
+use std::io::Print;
+use test_script::{between, read_script};
 
 fn meant(b: u8) -> u8 {
     match b {
@@ -58,7 +59,7 @@ fn put_bytes_meant(read: &mut [u8; 65536]) {
 }
 
 // The turns bound the loop; a script has fewer lines.
-fn play(script: &[u8]) {
+fn play(rt: &impl Print, script: &[u8]) {
     let mut text = [0u8; TEXT];
     let mut feed = [0u64; MORE_FEED];
     let mut state = [0u64; STATE_CELLS];
@@ -68,20 +69,20 @@ fn play(script: &[u8]) {
         if at >= script.len() {
             return;
         }
-        at = play_line(script, at, &mut text, &mut feed, &mut state);
+        at = play_line(rt, script, at, &mut text, &mut feed, &mut state);
         turns -= 1;
     }
 }
 
 // The first bytes that were read are the script.
-fn play_front(read: &[u8; 65536], size: usize) {
-    play(between(read, 0, size));
+fn play_front(rt: &impl Print, read: &[u8; 65536], size: usize) {
+    play(rt, between(read, 0, size));
 }
 
-fn main() {
-    let mut read = io::large_buffer();
-    let size = io::read_full(libc::STDIN_FILENO, &mut read);
+fn main(rt: HostRuntime) {
+    let mut read = [0u8; 65536];
+    let size = read_script(&mut rt.stdin(), &mut read);
     put_bytes_meant(&mut read);
-    play_front(&read, size);
-    damage();
+    play_front(&rt, &read, size);
+    damage(&rt);
 }

@@ -1,6 +1,7 @@
 // What stands in the cells that a call was lent, and what became of them.
 use crate::print::{number, say};
 use linker::{FEED_CELLS, STATE_CELLS, WORK_CELLS};
+use std::io::Print;
 use test_script::byte;
 
 // One cell more than a call is lent, so that what stands behind is seen too.
@@ -28,17 +29,17 @@ fn same_but_mark(before: &[u64; STATE_CELLS], after: &[u64; STATE_CELLS]) -> boo
     same_state(before, &unmarked)
 }
 
-pub fn tell_state(before: &[u64; STATE_CELLS], after: &[u64; STATE_CELLS]) {
+pub fn tell_state(rt: &impl Print, before: &[u64; STATE_CELLS], after: &[u64; STATE_CELLS]) {
     if same_state(before, after) {
-        say(b"; state as before");
+        say(rt, b"; state as before");
         return;
     }
     if same_but_mark(before, after) {
-        say(b"; state as before but for the mark, now");
-        number(after[2]);
+        say(rt, b"; state as before but for the mark, now");
+        number(rt, after[2]);
         return;
     }
-    say(b"; state changed");
+    say(rt, b"; state changed");
 }
 
 // ---- work memory
@@ -63,16 +64,16 @@ pub fn work_zero(cells: &[u64; MORE_WORK], size: usize) -> bool {
     run_end(cells, size, 5) == MORE_WORK
 }
 
-pub fn tell_work(cells: &[u64; MORE_WORK], size: usize) {
+pub fn tell_work(rt: &impl Print, cells: &[u64; MORE_WORK], size: usize) {
     if run_end(cells, 0, 5) == MORE_WORK {
-        say(b"; work as before");
+        say(rt, b"; work as before");
         return;
     }
     if work_zero(cells, size) {
-        say(b"; work zero");
+        say(rt, b"; work zero");
         return;
     }
-    say(b"; work changed");
+    say(rt, b"; work changed");
 }
 
 // ---- feed memory
@@ -163,23 +164,28 @@ pub fn holds(cells: &[u64; MORE_FEED], text: &[u8]) -> bool {
     holds_bytes(cells, text)
 }
 
-pub fn tell_feed(before: &[u64; MORE_FEED], after: &[u64; MORE_FEED], text: &[u8]) {
+pub fn tell_feed(
+    rt: &impl Print,
+    before: &[u64; MORE_FEED],
+    after: &[u64; MORE_FEED],
+    text: &[u8],
+) {
     if same_feed(before, after) {
-        say(b"; feed as before");
+        say(rt, b"; feed as before");
         return;
     }
     if feed_zero(after) {
-        say(b"; feed zero");
+        say(rt, b"; feed zero");
         return;
     }
     if holds(after, text) {
-        say(b"; feed holds");
-        number(text.len() as u64);
+        say(rt, b"; feed holds");
+        number(rt, text.len() as u64);
         return;
     }
     if overfull(after) {
-        say(b"; feed overfull");
+        say(rt, b"; feed overfull");
         return;
     }
-    say(b"; feed changed");
+    say(rt, b"; feed changed");
 }

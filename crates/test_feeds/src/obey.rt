@@ -7,6 +7,7 @@ use crate::others::{base, end, force, load_file, memory, reset};
 use crate::pieces::{TEXT, piece_again, pieces_from, put_byte, put_file, rule_lines};
 use crate::print::say;
 use linker::{FEED_CELLS, STATE_CELLS, WORK_CELLS, lnk100_reset};
+use std::io::Print;
 use test_script::{between, byte, file_end, next_line, operand};
 
 // ---- operands
@@ -65,15 +66,20 @@ fn sizes(numbers: &[u8]) -> Sizes {
 
 // ---- lines
 
-fn start(title: &[u8], feed: &mut [u64; MORE_FEED], state: &mut [u64; STATE_CELLS]) {
-    say(title);
+fn start(
+    rt: &impl Print,
+    title: &[u8],
+    feed: &mut [u64; MORE_FEED],
+    state: &mut [u64; STATE_CELLS],
+) {
+    say(rt, title);
     *feed = [0u64; MORE_FEED];
     lnk100_reset(state);
 }
 
-fn label(text: &[u8]) {
-    say(text);
-    say(b": ");
+fn label(rt: &impl Print, text: &[u8]) {
+    say(rt, text);
+    say(rt, b": ");
 }
 
 fn set_feed(feed: &mut [u64; MORE_FEED], at: usize, cell: u64) {
@@ -89,11 +95,12 @@ fn set_state(state: &mut [u64; STATE_CELLS], at: usize, cell: u64) {
 }
 
 // A line on the feed alone.
-fn obey_feed(line: &[u8], text: &[u8; TEXT], feed: &mut [u64; MORE_FEED]) {
+fn obey_feed(rt: &impl Print, line: &[u8], text: &[u8; TEXT], feed: &mut [u64; MORE_FEED]) {
     let given = operand(line);
     match byte(line, 0) {
-        b'O' => open(feed, cells_lent(given, 0, FEED_CELLS)),
+        b'O' => open(rt, feed, cells_lent(given, 0, FEED_CELLS)),
         b'P' => piece(
+            rt,
             feed,
             cells_lent(given, 2, FEED_CELLS),
             text,
@@ -101,34 +108,36 @@ fn obey_feed(line: &[u8], text: &[u8; TEXT], feed: &mut [u64; MORE_FEED]) {
             place(given, 1),
         ),
         b'N' => pieces_from(
+            rt,
             feed,
             text,
             (nth(given, 0) % 100000) as u32,
             (nth(given, 1) % 10000) as u16,
         ),
-        b'A' => piece_again(feed, text, (nth(given, 0) % 10000) as u16),
-        b'D' => drop_open(feed, cells_lent(given, 0, FEED_CELLS)),
+        b'A' => piece_again(rt, feed, text, (nth(given, 0) % 10000) as u16),
+        b'D' => drop_open(rt, feed, cells_lent(given, 0, FEED_CELLS)),
         b'M' => set_feed(feed, place(given, 0), nth(given, 1)),
         _ => {}
     }
 }
 
 // A line on the state alone.
-fn obey_state(line: &[u8], state: &mut [u64; STATE_CELLS]) {
+fn obey_state(rt: &impl Print, line: &[u8], state: &mut [u64; STATE_CELLS]) {
     let given = operand(line);
     match byte(line, 0) {
         b'S' => set_state(state, place(given, 0), nth(given, 1)),
-        b'B' => base(state, nth(given, 0)),
-        b'F' => force(state, given),
-        b'R' => reset(state),
-        b'E' => end(state),
-        b'H' => memory(state),
+        b'B' => base(rt, state, nth(given, 0)),
+        b'F' => force(rt, state, given),
+        b'R' => reset(rt, state),
+        b'E' => end(rt, state),
+        b'H' => memory(rt, state),
         _ => {}
     }
 }
 
 // A line that no file stands under.
 fn obey(
+    rt: &impl Print,
     line: &[u8],
     text: &mut [u8; TEXT],
     feed: &mut [u64; MORE_FEED],
@@ -136,16 +145,16 @@ fn obey(
 ) {
     let given = operand(line);
     match byte(line, 0) {
-        b'-' => start(line, feed, state),
-        b':' => say(line),
-        b'=' => label(given),
+        b'-' => start(rt, line, feed, state),
+        b':' => say(rt, line),
+        b'=' => label(rt, given),
         b'W' => rule_lines(text),
         b'X' => put_byte(text, place(given, 0), (nth(given, 1) % 256) as u8),
-        b'C' => close(feed, state, sizes(given)),
-        b'K' => close_fed(feed, state, between(text, 0, place(given, 0))),
+        b'C' => close(rt, feed, state, sizes(given)),
+        b'K' => close_fed(rt, feed, state, between(text, 0, place(given, 0))),
         _ => {
-            obey_feed(line, text, feed);
-            obey_state(line, state);
+            obey_feed(rt, line, text, feed);
+            obey_state(rt, line, state);
         }
     }
 }
@@ -163,11 +172,17 @@ fn file_of(script: &[u8], from: usize, stop: usize) -> &[u8] {
 }
 
 // A line that a file stands under.
-fn obey_file(letter: u8, file: &[u8], text: &mut [u8; TEXT], state: &mut [u64; STATE_CELLS]) {
+fn obey_file(
+    rt: &impl Print,
+    letter: u8,
+    file: &[u8],
+    text: &mut [u8; TEXT],
+    state: &mut [u64; STATE_CELLS],
+) {
     match letter {
         b'T' => put_file(text, file),
-        b'L' => load_file(state, file),
-        _ => feed_file(file, state),
+        b'L' => load_file(rt, state, file),
+        _ => feed_file(rt, file, state),
     }
 }
 
@@ -182,6 +197,7 @@ fn has_file(letter: u8) -> bool {
 
 // Answers where the next line of the script starts.
 pub fn play_line(
+    rt: &impl Print,
     script: &[u8],
     at: usize,
     text: &mut [u8; TEXT],
@@ -193,9 +209,9 @@ pub fn play_line(
     let letter = byte(line, 0);
     if has_file(letter) {
         let stop = file_end(script, next);
-        obey_file(letter, file_of(script, next, stop), text, state);
+        obey_file(rt, letter, file_of(script, next, stop), text, state);
         return next_line(script, stop);
     }
-    obey(line, text, feed, state);
+    obey(rt, line, text, feed, state);
     next
 }

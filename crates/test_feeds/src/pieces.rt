@@ -3,6 +3,7 @@ use crate::files::counted;
 use crate::lend::feed_part;
 use crate::memory::{MORE_FEED, tell_feed};
 use crate::print::{number, say};
+use std::io::Print;
 use test_script::between;
 
 // 129 pieces of 512.
@@ -77,30 +78,37 @@ fn count_quiet(
     quiet
 }
 
-fn tell_quiet(pieces: u16, quiet: u64) {
-    say(b"FEED 512,");
-    number(pieces as u64);
-    say(b" times: 0 0 0 0");
-    number(quiet);
-    say(b" times");
+fn tell_quiet(rt: &impl Print, pieces: u16, quiet: u64) {
+    say(rt, b"FEED 512,");
+    number(rt, pieces as u64);
+    say(rt, b" times: 0 0 0 0");
+    number(rt, quiet);
+    say(rt, b" times");
 }
 
 // Behind what has been fed, which is the text up to a position.
-pub fn pieces_from(feed: &mut [u64; MORE_FEED], text: &[u8; TEXT], from: u32, pieces: u16) {
+pub fn pieces_from(
+    rt: &impl Print,
+    feed: &mut [u64; MORE_FEED],
+    text: &[u8; TEXT],
+    from: u32,
+    pieces: u16,
+) {
     let before = *feed;
-    tell_quiet(pieces, count_quiet(feed, text, from, false, pieces));
+    tell_quiet(rt, pieces, count_quiet(feed, text, from, false, pieces));
     tell_feed(
+        rt,
         &before,
         feed,
         between(text, 0, from as usize + 512 * (pieces as usize)),
     );
-    say(b"\n");
+    say(rt, b"\n");
 }
 
 // The first 512 bytes again and again.
-pub fn piece_again(feed: &mut [u64; MORE_FEED], text: &[u8; TEXT], pieces: u16) {
+pub fn piece_again(rt: &impl Print, feed: &mut [u64; MORE_FEED], text: &[u8; TEXT], pieces: u16) {
     let before = *feed;
-    tell_quiet(pieces, count_quiet(feed, text, 0, true, pieces));
-    tell_feed(&before, feed, b"");
-    say(b"\n");
+    tell_quiet(rt, pieces, count_quiet(feed, text, 0, true, pieces));
+    tell_feed(rt, &before, feed, b"");
+    say(rt, b"\n");
 }

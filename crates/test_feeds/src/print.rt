@@ -1,38 +1,39 @@
 // Printing of text and of answers.
-use libc::STDOUT_FILENO;
 use rules::answer::{CallAnswer, FeedAnswer, LoadAnswer};
+use std::io::Print;
 
-pub fn say(text: &[u8]) {
-    io::write_all(STDOUT_FILENO, text);
+// What cannot be written is missed where the output is held to the stored one.
+pub fn say(rt: &impl Print, text: &[u8]) {
+    let _ = rt.write_all(text);
 }
 
-pub fn number(n: u64) {
-    say(b" ");
-    io::print_decimal(STDOUT_FILENO, n);
+pub fn number(rt: &impl Print, n: u64) {
+    say(rt, b" ");
+    let _ = rt.print(n);
 }
 
-pub fn title(text: &[u8]) {
-    say(b"-- ");
-    say(text);
-    say(b"\n");
+pub fn title(rt: &impl Print, text: &[u8]) {
+    say(rt, b"-- ");
+    say(rt, text);
+    say(rt, b"\n");
 }
 
 // The numbers of an answer, in the order of its struct.
-pub fn call_answer(a: CallAnswer) {
-    number(a.number);
-    number(a.line);
+pub fn call_answer(rt: &impl Print, a: CallAnswer) {
+    number(rt, a.number);
+    number(rt, a.line);
 }
 
-pub fn piece_answer(a: FeedAnswer) {
-    number(a.number);
-    number(a.advice);
-    number(a.line);
-    number(a.column);
+pub fn piece_answer(rt: &impl Print, a: FeedAnswer) {
+    number(rt, a.number);
+    number(rt, a.advice);
+    number(rt, a.line);
+    number(rt, a.column);
 }
 
-pub fn load_answer(a: LoadAnswer) {
-    number(a.number);
-    number(a.line);
-    number(a.column);
-    number(a.rounds);
+pub fn load_answer(rt: &impl Print, a: LoadAnswer) {
+    number(rt, a.number);
+    number(rt, a.line);
+    number(rt, a.column);
+    number(rt, a.rounds);
 }

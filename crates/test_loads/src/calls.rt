@@ -2,45 +2,46 @@
 use crate::cells::tell_state;
 use crate::print::{answer, number, say};
 use linker::{STATE_CELLS, lnk100_base, lnk100_end, lnk100_force, lnk100_reset};
+use std::io::Print;
 use test_script::number_of;
 
-pub fn reset(state: &mut [u64; STATE_CELLS]) {
+pub fn reset(rt: &impl Print, state: &mut [u64; STATE_CELLS]) {
     let before = *state;
     let a = lnk100_reset(state);
-    answer(b"RESET", a.number, a.line);
-    tell_state(&before, state);
+    answer(rt, b"RESET", a.number, a.line);
+    tell_state(rt, &before, state);
 }
 
 // The title of a run, which starts from a fresh state.
-pub fn start(title: &[u8], state: &mut [u64; STATE_CELLS]) {
-    say(title);
+pub fn start(rt: &impl Print, title: &[u8], state: &mut [u64; STATE_CELLS]) {
+    say(rt, title);
     lnk100_reset(state);
 }
 
-pub fn base(state: &mut [u64; STATE_CELLS], digits: &[u8]) {
+pub fn base(rt: &impl Print, state: &mut [u64; STATE_CELLS], digits: &[u8]) {
     let before = *state;
     let a = lnk100_base(state, number_of(digits));
-    say(b"BASE ");
-    answer(digits, a.number, a.line);
-    tell_state(&before, state);
+    say(rt, b"BASE ");
+    answer(rt, digits, a.number, a.line);
+    tell_state(rt, &before, state);
 }
 
-pub fn force(state: &mut [u64; STATE_CELLS], name: &[u8]) {
+pub fn force(rt: &impl Print, state: &mut [u64; STATE_CELLS], name: &[u8]) {
     let before = *state;
     let a = lnk100_force(state, name);
-    say(b"FORCE ");
-    answer(name, a.number, a.line);
-    tell_state(&before, state);
+    say(rt, b"FORCE ");
+    answer(rt, name, a.number, a.line);
+    tell_state(rt, &before, state);
 }
 
-pub fn end(state: &mut [u64; STATE_CELLS]) {
+pub fn end(rt: &impl Print, state: &mut [u64; STATE_CELLS]) {
     let before = *state;
     let mut out = [0u8; 512];
     let a = lnk100_end(state, &mut out);
-    answer(b"END", a.number, a.line);
-    say(b", length ");
-    number(a.length);
-    tell_state(&before, state);
+    answer(rt, b"END", a.number, a.line);
+    say(rt, b", length ");
+    number(rt, a.length);
+    tell_state(rt, &before, state);
 }
 
 // The n-th of 256 names, QAA to QPP.
@@ -57,10 +58,10 @@ fn force_all(state: &mut [u64; STATE_CELLS], count: u8) {
 }
 
 // FORCE of so many names, at most 255.
-pub fn force_names(state: &mut [u64; STATE_CELLS], digits: &[u8]) {
+pub fn force_names(rt: &impl Print, state: &mut [u64; STATE_CELLS], digits: &[u8]) {
     let before = *state;
     force_all(state, (number_of(digits) % 256) as u8);
-    say(b"FORCE of names, ");
-    say(digits);
-    tell_state(&before, state);
+    say(rt, b"FORCE of names, ");
+    say(rt, digits);
+    tell_state(rt, &before, state);
 }

@@ -1,6 +1,7 @@
 // What a call left of the cells that it was lent.
 use crate::print::{number, say};
 use linker::{STATE_CELLS, WORK_CELLS};
+use std::io::Print;
 
 fn same(a: &[u64; STATE_CELLS], b: &[u64; STATE_CELLS]) -> bool {
     let mut i = 0;
@@ -21,18 +22,18 @@ fn same_but_mark(before: &[u64; STATE_CELLS], after: &[u64; STATE_CELLS]) -> boo
 }
 
 // The end of a call's line.
-pub fn tell_state(before: &[u64; STATE_CELLS], after: &[u64; STATE_CELLS]) {
+pub fn tell_state(rt: &impl Print, before: &[u64; STATE_CELLS], after: &[u64; STATE_CELLS]) {
     if same(before, after) {
-        say(b"; state same\n");
+        say(rt, b"; state same\n");
         return;
     }
     if same_but_mark(before, after) {
-        say(b"; state same but for the mark, now ");
-        number(after[2]);
-        say(b"\n");
+        say(rt, b"; state same but for the mark, now ");
+        number(rt, after[2]);
+        say(rt, b"\n");
         return;
     }
-    say(b"; state changed\n");
+    say(rt, b"; state changed\n");
 }
 
 // One cell more than work memory has, so that what stands behind it is seen too.
@@ -56,18 +57,18 @@ pub fn are_zero(cells: &[u64; MORE_CELLS]) -> bool {
 }
 
 // Of cells that were all 5 the first `size` were lent as work memory.
-pub fn tell_work(cells: &[u64; MORE_CELLS], size: usize) {
+pub fn tell_work(rt: &impl Print, cells: &[u64; MORE_CELLS], size: usize) {
     if run_end(cells, 0, 5) == MORE_CELLS {
-        say(b"; work untouched");
+        say(rt, b"; work untouched");
         return;
     }
     if run_end(cells, 0, 0) != size {
-        say(b"; work not zero");
+        say(rt, b"; work not zero");
         return;
     }
     if run_end(cells, size, 5) != MORE_CELLS {
-        say(b"; work zero, cells behind it changed");
+        say(rt, b"; work zero, cells behind it changed");
         return;
     }
-    say(b"; work zero");
+    say(rt, b"; work zero");
 }

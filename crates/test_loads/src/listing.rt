@@ -2,79 +2,80 @@
 use crate::print::{byte, name, number, say};
 use linker::{STATE_CELLS, lnk100_end, lnk100_memory, lnk100_symbols, lnk100_undefined};
 use rules::answer::EndAnswer;
+use std::io::Print;
 
-fn tell_symbol(packed: u64, value: u64, defined: u64) {
-    say(b"  ");
-    name(packed);
-    say(b" ");
-    number(value);
+fn tell_symbol(rt: &impl Print, packed: u64, value: u64, defined: u64) {
+    say(rt, b"  ");
+    name(rt, packed);
+    say(rt, b" ");
+    number(rt, value);
     if defined == 1 {
-        say(b" defined\n");
+        say(rt, b" defined\n");
         return;
     }
-    say(b" undefined\n");
+    say(rt, b" undefined\n");
 }
 
-fn tell_symbols(state: &[u64; STATE_CELLS]) {
+fn tell_symbols(rt: &impl Print, state: &[u64; STATE_CELLS]) {
     let mut index: u64 = 0;
     while index < 256 {
         let s = lnk100_symbols(state, index);
         if s.none == 1 {
             return;
         }
-        tell_symbol(s.name, s.value, s.defined);
+        tell_symbol(rt, s.name, s.value, s.defined);
         index += 1;
     }
 }
 
-fn tell_reference(packed: u64, highest: u64) {
-    say(b"  undefined ");
-    name(packed);
-    say(b", highest reference ");
-    number(highest);
-    say(b"\n");
+fn tell_reference(rt: &impl Print, packed: u64, highest: u64) {
+    say(rt, b"  undefined ");
+    name(rt, packed);
+    say(rt, b", highest reference ");
+    number(rt, highest);
+    say(rt, b"\n");
 }
 
-fn tell_undefined(state: &[u64; STATE_CELLS]) {
+fn tell_undefined(rt: &impl Print, state: &[u64; STATE_CELLS]) {
     let mut index: u64 = 0;
     while index < 256 {
         let u = lnk100_undefined(state, index);
         if u.none == 1 {
             return;
         }
-        tell_reference(u.name, u.highest);
+        tell_reference(rt, u.name, u.highest);
         index += 1;
     }
 }
 
-fn tell_high(state: &[u64; STATE_CELLS]) {
+fn tell_high(rt: &impl Print, state: &[u64; STATE_CELLS]) {
     let m = lnk100_memory(state);
-    say(b"  HIGH ");
-    number(m.high);
-    say(b"\n");
+    say(rt, b"  HIGH ");
+    number(rt, m.high);
+    say(rt, b"\n");
 }
 
 // A record of the image to a line, as document 01 writes it: the kind, then numbers of two bytes.
-fn tell_byte(i: usize, b: u8) {
+fn tell_byte(rt: &impl Print, i: usize, b: u8) {
     if i % 11 == 0 {
         if i != 0 {
-            say(b"\n");
+            say(rt, b"\n");
         }
-        say(b"  ");
+        say(rt, b"  ");
     }
     if i % 11 % 2 == 1 {
-        say(b" ");
+        say(rt, b" ");
     }
-    byte(b);
+    byte(rt, b);
 }
 
-fn tell_bytes(out: &[u8; 512], length: u64) {
+fn tell_bytes(rt: &impl Print, out: &[u8; 512], length: u64) {
     let mut i: usize = 0;
     while i < 512 {
         if length <= i as u64 {
             return;
         }
-        tell_byte(i, out[i]);
+        tell_byte(rt, i, out[i]);
         i += 1;
     }
 }
@@ -85,27 +86,27 @@ fn end(state: &mut [u64; STATE_CELLS], out: &mut [u8; 512]) -> EndAnswer {
 }
 
 // END is done on a copy, so that the run can go on.
-fn tell_image(state: &[u64; STATE_CELLS]) {
+fn tell_image(rt: &impl Print, state: &[u64; STATE_CELLS]) {
     let mut copy = *state;
     let mut out = [0u8; 512];
     let e = end(&mut copy, &mut out);
     if e.number != 0 {
-        say(b"  END refused by ");
-        number(e.number);
-        say(b"\n");
+        say(rt, b"  END refused by ");
+        number(rt, e.number);
+        say(rt, b"\n");
         return;
     }
-    tell_bytes(&out, e.length);
-    say(b"\n");
+    tell_bytes(rt, &out, e.length);
+    say(rt, b"\n");
 }
 
-pub fn list_memory(state: &[u64; STATE_CELLS]) {
-    tell_high(state);
-    tell_image(state);
+pub fn list_memory(rt: &impl Print, state: &[u64; STATE_CELLS]) {
+    tell_high(rt, state);
+    tell_image(rt, state);
 }
 
-pub fn list(state: &[u64; STATE_CELLS]) {
-    tell_symbols(state);
-    tell_undefined(state);
-    list_memory(state);
+pub fn list(rt: &impl Print, state: &[u64; STATE_CELLS]) {
+    tell_symbols(rt, state);
+    tell_undefined(rt, state);
+    list_memory(rt, state);
 }

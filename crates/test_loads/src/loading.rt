@@ -4,6 +4,7 @@ use crate::print::{answer, number, say};
 use linker::{STATE_CELLS, WORK_CELLS, lnk100_load};
 use rules::answer::LoadAnswer;
 use rules::limits::LONGEST_FILE;
+use std::io::Print;
 use test_script::between;
 
 // LOAD with the first cells as work memory.
@@ -22,43 +23,43 @@ fn lend_state(cells: &mut [u64], size: usize, work: &mut [u64], file: &[u8]) -> 
     lend_work(&mut cells[..size], work, WORK_CELLS, file)
 }
 
-fn tell_answer(number_of_answer: u64, line: u64, column: u64, rounds: u64) {
-    answer(b"LOAD", number_of_answer, line);
-    say(b", column ");
-    number(column);
-    say(b", rounds ");
-    number(rounds);
+fn tell_answer(rt: &impl Print, number_of_answer: u64, line: u64, column: u64, rounds: u64) {
+    answer(rt, b"LOAD", number_of_answer, line);
+    say(rt, b", column ");
+    number(rt, column);
+    say(rt, b", rounds ");
+    number(rt, rounds);
 }
 
 // LOAD with the first `size` of cells that are all 5 as work memory.
-pub fn load(state: &mut [u64; STATE_CELLS], size: usize, file: &[u8]) {
+pub fn load(rt: &impl Print, state: &mut [u64; STATE_CELLS], size: usize, file: &[u8]) {
     let before = *state;
     let mut work = [5u64; MORE_CELLS];
     let a = lend_work(state, &mut work, size, file);
-    tell_answer(a.number, a.line, a.column, a.rounds);
-    tell_work(&work, size);
-    tell_state(&before, state);
+    tell_answer(rt, a.number, a.line, a.column, a.rounds);
+    tell_work(rt, &work, size);
+    tell_state(rt, &before, state);
 }
 
 // One byte more than a file may have.
 const MORE_BYTES: usize = LONGEST_FILE + 1;
 
 // LOAD of so many line ends.
-pub fn load_blank(state: &mut [u64; STATE_CELLS], count: usize) {
+pub fn load_blank(rt: &impl Print, state: &mut [u64; STATE_CELLS], count: usize) {
     let blank = [10u8; MORE_BYTES];
-    load(state, WORK_CELLS, between(&blank, 0, count));
+    load(rt, state, WORK_CELLS, between(&blank, 0, count));
 }
 
 // LOAD with the first `size` of cells that are all zero as the state.
-pub fn load_into(size: usize, file: &[u8]) {
+pub fn load_into(rt: &impl Print, size: usize, file: &[u8]) {
     let mut cells = [0u64; MORE_CELLS];
     let mut work = [5u64; MORE_CELLS];
     let a = lend_state(&mut cells, size, &mut work, file);
-    tell_answer(a.number, a.line, a.column, a.rounds);
-    tell_work(&work, WORK_CELLS);
+    tell_answer(rt, a.number, a.line, a.column, a.rounds);
+    tell_work(rt, &work, WORK_CELLS);
     if are_zero(&cells) {
-        say(b"; state same\n");
+        say(rt, b"; state same\n");
         return;
     }
-    say(b"; state changed\n");
+    say(rt, b"; state changed\n");
 }

@@ -25,10 +25,11 @@ mod print;
 
 use linker::STATE_CELLS;
 use obey::play_line;
-use test_script::between;
+use std::io::Print;
+use test_script::{between, read_script};
 
 // The turns bound the loop; a script has fewer lines.
-fn play(script: &[u8]) {
+fn play(rt: &impl Print, script: &[u8]) {
     let mut state = [0u64; STATE_CELLS];
     let mut kept = [0u64; STATE_CELLS];
     let mut at: usize = 0;
@@ -37,13 +38,13 @@ fn play(script: &[u8]) {
         if at >= script.len() {
             return;
         }
-        at = play_line(script, at, &mut state, &mut kept);
+        at = play_line(rt, script, at, &mut state, &mut kept);
         turns -= 1;
     }
 }
 
-fn main() {
-    let mut text = io::large_buffer();
-    let size = io::read_full(libc::STDIN_FILENO, &mut text);
-    play(between(&text, 0, size));
+fn main(rt: HostRuntime) {
+    let mut text = [0u8; 65536];
+    let size = read_script(&mut rt.stdin(), &mut text);
+    play(&rt, between(&text, 0, size));
 }

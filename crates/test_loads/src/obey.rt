@@ -4,6 +4,7 @@ use crate::listing::{list, list_memory};
 use crate::loading::{load, load_blank, load_into};
 use crate::print::say;
 use linker::{STATE_CELLS, WORK_CELLS};
+use std::io::Print;
 use test_script::{between, byte, file_end, next_line, number_of, operand};
 
 fn keep(state: &[u64; STATE_CELLS], kept: &mut [u64; STATE_CELLS]) {
@@ -17,45 +18,56 @@ fn damage(state: &mut [u64; STATE_CELLS], at: usize) {
 }
 
 // A line that no file stands under.
-fn obey(line: &[u8], state: &mut [u64; STATE_CELLS], kept: &mut [u64; STATE_CELLS]) {
+fn obey(
+    rt: &impl Print,
+    line: &[u8],
+    state: &mut [u64; STATE_CELLS],
+    kept: &mut [u64; STATE_CELLS],
+) {
     match byte(line, 0) {
-        b'-' => start(line, state),
-        b':' => say(line),
-        b'R' => reset(state),
-        b'E' => end(state),
-        b'B' => base(state, operand(line)),
-        b'F' => force(state, operand(line)),
-        b'N' => force_names(state, operand(line)),
-        b'Z' => load_blank(state, number_of(operand(line)) as usize),
-        b'S' => list(state),
-        b'M' => list_memory(state),
+        b'-' => start(rt, line, state),
+        b':' => say(rt, line),
+        b'R' => reset(rt, state),
+        b'E' => end(rt, state),
+        b'B' => base(rt, state, operand(line)),
+        b'F' => force(rt, state, operand(line)),
+        b'N' => force_names(rt, state, operand(line)),
+        b'Z' => load_blank(rt, state, number_of(operand(line)) as usize),
+        b'S' => list(rt, state),
+        b'M' => list_memory(rt, state),
         b'K' => keep(state, kept),
         b'G' => keep(kept, state),
         b'D' => damage(state, number_of(operand(line)) as usize),
         b'#' => {}
         b'\n' => {}
-        _ => say(b"?\n"),
+        _ => say(rt, b"?\n"),
     }
 }
 
 // Work memory of the length that is asked for, or of the right one.
-fn load_lines(digits: &[u8], state: &mut [u64; STATE_CELLS], file: &[u8]) {
+fn load_lines(rt: &impl Print, digits: &[u8], state: &mut [u64; STATE_CELLS], file: &[u8]) {
     if digits.len() == 0 {
-        load(state, WORK_CELLS, file);
+        load(rt, state, WORK_CELLS, file);
         return;
     }
-    load(state, number_of(digits) as usize, file);
+    load(rt, state, number_of(digits) as usize, file);
 }
 
 // The file under a line L or C. Answers where the line behind the file's stop starts.
-fn play_file(script: &[u8], line: &[u8], next: usize, state: &mut [u64; STATE_CELLS]) -> usize {
+fn play_file(
+    rt: &impl Print,
+    script: &[u8],
+    line: &[u8],
+    next: usize,
+    state: &mut [u64; STATE_CELLS],
+) -> usize {
     let stop = file_end(script, next);
     let file = between(script, next, stop);
     if byte(line, 0) == b'C' {
-        load_into(number_of(operand(line)) as usize, file);
+        load_into(rt, number_of(operand(line)) as usize, file);
         return next_line(script, stop);
     }
-    load_lines(operand(line), state, file);
+    load_lines(rt, operand(line), state, file);
     next_line(script, stop)
 }
 
@@ -69,6 +81,7 @@ fn has_file(letter: u8) -> bool {
 
 // Answers where the next line of the script starts.
 pub fn play_line(
+    rt: &impl Print,
     script: &[u8],
     at: usize,
     state: &mut [u64; STATE_CELLS],
@@ -77,8 +90,8 @@ pub fn play_line(
     let next = next_line(script, at);
     let line = between(script, at, next);
     if has_file(byte(line, 0)) {
-        return play_file(script, line, next, state);
+        return play_file(rt, script, line, next, state);
     }
-    obey(line, state, kept);
+    obey(rt, line, state, kept);
     next
 }

@@ -16,23 +16,24 @@ mod cases;
 mod show;
 
 use cases::play_line;
-use test_script::between;
+use std::io::Print;
+use test_script::{between, read_script};
 
 // The turns bound the loop; a script has fewer lines.
-fn play(script: &[u8]) {
+fn play(rt: &impl Print, script: &[u8]) {
     let mut at: usize = 0;
     let mut turns: u64 = 65536;
     while turns > 0 {
         if at >= script.len() {
             return;
         }
-        at = play_line(script, at);
+        at = play_line(rt, script, at);
         turns -= 1;
     }
 }
 
-fn main() {
-    let mut text = io::large_buffer();
-    let size = io::read_full(libc::STDIN_FILENO, &mut text);
-    play(between(&text, 0, size));
+fn main(rt: HostRuntime) {
+    let mut text = [0u8; 65536];
+    let size = read_script(&mut rt.stdin(), &mut text);
+    play(&rt, between(&text, 0, size));
 }

@@ -2,21 +2,22 @@
 ghost use Rattle.std.specs.Prelude.{◌<◌, ◌≤◌, length};
 ghost use Rattle.rules.specs.Limits.{longest_file};
 
-use libc::STDOUT_FILENO;
 use reading::read_file;
 use rules::limits::LONGEST_FILE;
 use rules::line::{Entry, Relocation};
 use rules::reading::{Part, Reading};
+use std::io::Print;
 use tables::cells::{PART_ROOM, ROW_ROOM, body_at, head_at};
 use tables::parts::part_of;
 use tables::rows::{FREE, MEMBER, SECTION, row_end, row_kind, row_line, row_start};
 
-pub fn say(text: &[u8]) {
-    io::write_all(STDOUT_FILENO, text);
+// What cannot be written is missed where the output is held to the stored one.
+pub fn say(rt: &impl Print, text: &[u8]) {
+    let _ = rt.write_all(text);
 }
 
-fn decimal(n: u64) {
-    io::print_decimal(STDOUT_FILENO, n);
+fn decimal(rt: &impl Print, n: u64) {
+    let _ = rt.print(n);
 }
 
 fn digit(n: u64, unit: u64) -> u8
@@ -26,7 +27,7 @@ fn digit(n: u64, unit: u64) -> u8
 }
 
 // Six octal digits.
-fn octal(n: u64) {
+fn octal(rt: &impl Print, n: u64) {
     let digits = [
         digit(n, 32768),
         digit(n, 4096),
@@ -35,7 +36,7 @@ fn octal(n: u64) {
         digit(n, 8),
         digit(n, 1),
     ];
-    io::write_all(STDOUT_FILENO, &digits);
+    say(rt, &digits);
 }
 
 fn byte(packed: u64, unit: u64) -> u8
@@ -45,86 +46,86 @@ fn byte(packed: u64, unit: u64) -> u8
 }
 
 // A character of a name; a shorter name ends in zeros.
-fn letter(packed: u64, unit: u64)
+fn letter(rt: &impl Print, packed: u64, unit: u64)
     requires { 0 < unit }
 {
     let b = byte(packed, unit);
     if b != 0 {
-        io::write_all(STDOUT_FILENO, &[b]);
+        say(rt, &[b]);
     }
 }
 
-fn name(packed: u64) {
-    letter(packed, 1099511627776);
-    letter(packed, 4294967296);
-    letter(packed, 16777216);
-    letter(packed, 65536);
-    letter(packed, 256);
-    letter(packed, 1);
+fn name(rt: &impl Print, packed: u64) {
+    letter(rt, packed, 1099511627776);
+    letter(rt, packed, 4294967296);
+    letter(rt, packed, 16777216);
+    letter(rt, packed, 65536);
+    letter(rt, packed, 256);
+    letter(rt, packed, 1);
 }
 
-fn show_entry(e: Entry) {
-    say(b"  entry ");
-    name(e.name);
-    say(b" ");
-    octal(e.value as u64);
+fn show_entry(rt: &impl Print, e: Entry) {
+    say(rt, b"  entry ");
+    name(rt, e.name);
+    say(rt, b" ");
+    octal(rt, e.value as u64);
     if e.relocated {
-        say(b" relocated, parameters ");
+        say(rt, b" relocated, parameters ");
     } else {
-        say(b" absolute, parameters ");
+        say(rt, b" absolute, parameters ");
     }
-    octal(e.parameters as u64);
+    octal(rt, e.parameters as u64);
 }
 
-fn show_relocation(relocation: Relocation) {
+fn show_relocation(rt: &impl Print, relocation: Relocation) {
     match relocation {
-        Relocation::Plain => say(b" plain"),
+        Relocation::Plain => say(rt, b" plain"),
         Relocation::External(k) => {
-            say(b" external ");
-            octal(k as u64);
+            say(rt, b" external ");
+            octal(rt, k as u64);
         }
         Relocation::Unread(kind) => {
-            say(b" type ");
-            octal(kind as u64);
+            say(rt, b" type ");
+            octal(rt, kind as u64);
         }
     }
 }
 
-fn show_word(address: u64, text: u64) {
-    say(b"  word ");
-    octal(address);
-    say(b":  ");
-    octal(text / 281474976710656);
-    say(b" ");
-    octal(text / 4294967296 % 65536);
-    say(b" ");
-    octal(text / 65536 % 65536);
-    say(b" ");
-    octal(text % 65536);
+fn show_word(rt: &impl Print, address: u64, text: u64) {
+    say(rt, b"  word ");
+    octal(rt, address);
+    say(rt, b":  ");
+    octal(rt, text / 281474976710656);
+    say(rt, b" ");
+    octal(rt, text / 4294967296 % 65536);
+    say(rt, b" ");
+    octal(rt, text / 65536 % 65536);
+    say(rt, b" ");
+    octal(rt, text % 65536);
 }
 
-fn show_block(offset: u64, count: u64) {
-    say(b"  code at ");
-    octal(offset);
-    say(b", count ");
-    octal(count);
+fn show_block(rt: &impl Print, offset: u64, count: u64) {
+    say(rt, b"  code at ");
+    octal(rt, offset);
+    say(rt, b", count ");
+    octal(rt, count);
 }
 
-fn show_part(part: Part) {
+fn show_part(rt: &impl Print, part: Part) {
     match part {
-        Part::EntryPart(e) => show_entry(e),
+        Part::EntryPart(e) => show_entry(rt, e),
         Part::ExternalPart(packed) => {
-            say(b"  external ");
-            name(packed);
+            say(rt, b"  external ");
+            name(rt, packed);
         }
-        Part::BlockPart { offset, count } => show_block(offset as u64, count as u64),
+        Part::BlockPart { offset, count } => show_block(rt, offset as u64, count as u64),
         Part::WordPart { address, word } => {
-            show_word(address as u64, word.text);
+            show_word(rt, address as u64, word.text);
             let relocation = word.relocation;
-            show_relocation(relocation);
+            show_relocation(rt, relocation);
         }
     }
-    say(b"\n");
+    say(rt, b"\n");
 }
 
 // How many of n elements are printed: all, or none where there are more than `most`.
@@ -135,91 +136,91 @@ fn shown(n: usize, most: usize) -> usize
 }
 
 // The first n parts of a table.
-fn show_parts(cells: &[u64], n: usize)
+fn show_parts(rt: &impl Print, cells: &[u64], n: usize)
     requires { n ≤ 30 }
 {
     let mut i: usize = 0;
     while i < n {
-        show_part(part_of(head_at(cells, i), body_at(cells, i)));
+        show_part(rt, part_of(head_at(cells, i), body_at(cells, i)));
         i += 1;
     }
 }
 
-fn show_row(rows: &[u64], i: usize)
+fn show_row(rt: &impl Print, rows: &[u64], i: usize)
     requires { i ≤ 8 }
 {
     let kind = row_kind(rows, i);
     match kind {
-        FREE => say(b"  module, line "),
-        MEMBER => say(b"  library module, line "),
-        SECTION => say(b"  section, line "),
-        _ => say(b"  no row, line "),
+        FREE => say(rt, b"  module, line "),
+        MEMBER => say(rt, b"  library module, line "),
+        SECTION => say(rt, b"  section, line "),
+        _ => say(rt, b"  no row, line "),
     }
-    decimal(row_line(rows, i));
-    say(b", from ");
-    decimal(row_start(rows, i) as u64);
-    say(b" to ");
-    decimal(row_end(rows, i) as u64);
-    say(b"\n");
+    decimal(rt, row_line(rows, i));
+    say(rt, b", from ");
+    decimal(rt, row_start(rows, i) as u64);
+    say(rt, b" to ");
+    decimal(rt, row_end(rows, i) as u64);
+    say(rt, b"\n");
 }
 
 // The first n rows of a table.
-fn show_rows(cells: &[u64], n: usize)
+fn show_rows(rt: &impl Print, cells: &[u64], n: usize)
     requires { n ≤ 8 }
 {
     let mut i: usize = 0;
     while i < n {
-        show_row(cells, i);
+        show_row(rt, cells, i);
         i += 1;
     }
 }
 
-fn show_stop(number: u64, line: u64, column: u64) {
-    say(b": stopped by ");
-    decimal(number);
-    say(b" at line ");
-    decimal(line);
-    say(b", column ");
-    decimal(column);
+fn show_stop(rt: &impl Print, number: u64, line: u64, column: u64) {
+    say(rt, b": stopped by ");
+    decimal(rt, number);
+    say(rt, b" at line ");
+    decimal(rt, line);
+    say(rt, b", column ");
+    decimal(rt, column);
 }
 
-fn show_reading(reading: Reading) {
+fn show_reading(rt: &impl Print, reading: Reading) {
     match reading {
-        Reading::Complete => say(b": complete"),
+        Reading::Complete => say(rt, b": complete"),
         Reading::Stopped {
             number,
             line,
             column,
-        } => show_stop(number, line as u64, column as u64),
+        } => show_stop(rt, number, line as u64, column as u64),
     }
 }
 
-fn show_counts(parts: usize, rows: usize) {
-    say(b"; parts ");
-    decimal(parts as u64);
-    say(b", rows ");
-    decimal(rows as u64);
-    say(b"\n");
+fn show_counts(rt: &impl Print, parts: usize, rows: usize) {
+    say(rt, b"; parts ");
+    decimal(rt, parts as u64);
+    say(rt, b", rows ");
+    decimal(rt, rows as u64);
+    say(rt, b"\n");
 }
 
 // Reads the file into these tables and prints what it came to.
-fn show_read(file: &[u8], parts: &mut [u64; PART_ROOM], rows: &mut [u64; ROW_ROOM])
+fn show_read(rt: &impl Print, file: &[u8], parts: &mut [u64; PART_ROOM], rows: &mut [u64; ROW_ROOM])
     requires { length file.now ≤ longest_file }
 {
     let r = read_file(file, parts, rows);
     let reading = r.reading;
-    show_reading(reading);
-    show_counts(r.parts, r.rows);
-    show_parts(parts, shown(r.parts, 30));
-    show_rows(rows, shown(r.rows, 8));
+    show_reading(rt, reading);
+    show_counts(rt, r.parts, r.rows);
+    show_parts(rt, parts, shown(r.parts, 30));
+    show_rows(rt, rows, shown(r.rows, 8));
 }
 
 // One case: its label, then what its file came to.
-pub fn show(label: &[u8], file: &[u8]) {
-    say(label);
+pub fn show(rt: &impl Print, label: &[u8], file: &[u8]) {
+    say(rt, label);
     let mut parts = [0u64; PART_ROOM];
     let mut rows = [0u64; ROW_ROOM];
     if file.len() <= LONGEST_FILE {
-        show_read(file, &mut parts, &mut rows);
+        show_read(rt, file, &mut parts, &mut rows);
     }
 }

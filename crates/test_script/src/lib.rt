@@ -1,6 +1,36 @@
 // The text of a script that a program plays: its lines, their operands, and the files that stand in it.
 #![tactic(auto)]
 
+ghost use Rattle.std.specs.Prelude.{◌+◌, ◌≤◌, length};
+
+use std::io::Read;
+
+// One read, into the text from `at` on: how many bytes it gave. A failed read ends the script as its end does.
+fn read_more(source: &mut impl Read, text: &mut [u8], at: usize) -> usize
+    requires { at ≤ length text.old }
+    ensures { at + result ≤ length text.new }
+{
+    match source.read(&mut text[at..]) {
+        Ok(n) => n,
+        Err(_) => 0,
+    }
+}
+
+// Reads until the text is full, the source ends or a read fails. Answers how many bytes it put at the front of the text.
+pub fn read_script(source: &mut impl Read, text: &mut [u8]) -> usize
+    ensures { result ≤ length text.new }
+{
+    let mut size = 0;
+    for _ in 0..text.len() {
+        let n = read_more(source, text, size);
+        if n == 0 {
+            return size;
+        }
+        size += n;
+    }
+    size
+}
+
 // The bytes from one position to another; all where the two do not lie so.
 pub fn between(text: &[u8], from: usize, to: usize) -> &[u8] {
     if to > text.len() {

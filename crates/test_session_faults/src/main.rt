@@ -3,6 +3,6 @@
 // NAMES.OBJ is legal too: its names have dollars and dots, where that of DOLLAR.OBJ starts with one.
 #![tactic(auto)]
 
-fn main() {
-    dialogue::run();
+fn main(rt: HostRuntime) {
+    dialogue::run(&rt);
 }

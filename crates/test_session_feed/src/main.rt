@@ -3,6 +3,6 @@
 // file may have, OVER.OBJ one more, and LONG.OBJ too many behind its fault. The file TTY is no terminal.
 #![tactic(auto)]
 
-fn main() {
-    dialogue::run();
+fn main(rt: HostRuntime) {
+    dialogue::run(&rt);
 }

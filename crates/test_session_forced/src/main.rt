@@ -1,6 +1,6 @@
 // A session of the dialogue: all that needs no LOAD, with forced symbols.
 #![tactic(auto)]
 
-fn main() {
-    dialogue::run();
+fn main(rt: HostRuntime) {
+    dialogue::run(&rt);
 }

@@ -2,6 +2,6 @@
 // Figure 3-1), resets after broken loads, two ENDs, and forced names among defined ones.
 #![tactic(auto)]
 
-fn main() {
-    dialogue::run();
+fn main(rt: HostRuntime) {
+    dialogue::run(&rt);
 }
