@@ -1,7 +1,7 @@
 -- Each way that a call can end, as its definition has it.
 use Prim.Native.Nat.{ℕ, suc, ◌+◌, ◌≤◌, ◌<◌}
 use native.Mathlib.Omega.{arith}
-use mathlib.Core.Bool.{Bool, true, false, cond, not, ◌||◌, true≢false, false≢true}
+use mathlib.Core.Bool.{Bool, true, false, cond, ◌||◌, true≢false, false≢true}
 use mathlib.Core.List.{List, [], ◌∷◌, ◌++◌}
 use mathlib.Core.Logic.{◌≢◌}
 use mathlib.Core.Option.{none, some}
@@ -11,7 +11,7 @@ use lib.ListN.{length, drop}
 use lib.Dec.{leb}
 use borrow.Author.Tests.{eq-eqb, ne_eqb, lt-ltb, le-ltb, le-leb, lt-leb, leb-true, leb-false}
 use Rattle.rules.specs.Text.{any, is_name, pack_name, name_of, name_over}
-use Rattle.rules.specs.State.{Symbol, State, state, Mark, unmarked, broken, frozen, fresh, marked, name_is, is_symbol}
+use Rattle.rules.specs.State.{Symbol, State, Mark, unmarked, broken, frozen, fresh, marked, name_is, is_symbol}
 use Rattle.rules.specs.Placing.{mention}
 use Rattle.rules.specs.Image.{image_of}
 use Rattle.rules.specs.Calls.{Lent, wrong_length, damaged, holding, shut_by, Outcome, call_answer, stopped, done, with_symbols, reset, base_state, base, force_state_over, force, force_over, EndOutcome, end_answer, end_stopped, end_done, is_broken, end_state, end}

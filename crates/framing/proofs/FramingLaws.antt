@@ -1,15 +1,15 @@
 -- Headers and titles by their fields: a text found byte by byte, a marker, a number with its value, and what a line of such fields says.
 -- Assumes nothing.
-use Prim.Native.Nat.{ℕ, ◌+◌, ◌-◌, ◌*◌, ◌≤◌, ◌<◌}
+use Prim.Native.Nat.{ℕ, ◌+◌, ◌-◌, ◌≤◌, ◌<◌}
 use native.Mathlib.Omega.{arith}
 use mathlib.Core.Bool.{Bool, true, false, true≢false}
 use mathlib.Core.List.{List, [], ◌∷◌, ◌++◌, append-nil}
 use mathlib.Core.Logic.{◌≢◌}
 use mathlib.Core.Option.{some}
 use mathlib.Core.Path.{◌≡◌, refl, sym, ap, ap₂, subst, ◌∙◌}
-use lib.ListN.{length, get_or, drop}
+use lib.ListN.{length, get_or}
 use borrow.Author.Tests.{eq-eqb, le-leb}
-use Rattle.rules.specs.Text.{space, all, between, is_legal, same_text, Field, fields_of, octal, is_number, number_of, is_name, name_of}
+use Rattle.rules.specs.Text.{all, between, is_legal, same_text, Field, fields_of, is_number, number_of, is_name, name_of}
 use Rattle.rules.specs.Line.{nth, number, Row, row, headers, row_in, row_of, marker_of, value, held, in_bounds, read_field, read_field_over, fits, in_front, fit, fit_over, Shape, said, read_as_over, header_shape, header_shape_in, row_at, opening_title, closing_title, record_shape, shape_for, test_bytes, say_fields_over, line_of, line_over, line_answer, line_answer_over}
 use Rattle.rules.specs.declared.line.Expected.{Expected}
 use Rattle.rules.specs.declared.line.Expected.TheVariants.{AnyHeader, OpeningTitle, ClosingTitle}
@@ -26,7 +26,7 @@ use Rattle.text.specs.declared.numbers.Number.{Number as AnyNumber}
 use Rattle.text.specs.declared.numbers.Number.TheVariants.{Value}
 use Rattle.text.specs.declared.names.Name.{Name as AnyName}
 use Rattle.text.specs.declared.names.Name.TheVariants.{Packed}
-use Rattle.text.proofs.ScanLaws.{part_nil, part_cons, length_part, drop_part, part_all}
+use Rattle.text.proofs.ScanLaws.{part_nil, part_all}
 use Rattle.runs.specs.Runs.{Stands, Stretch, FieldEnd, texts_from, Spelled, Follow, LineEnded}
 use Rattle.runs.proofs.StretchLaws.{part_split, part_one}
 use Rattle.runs.proofs.SpelledLaws.{trailed, plain_spelled, spaced, gap_spelled, byte_spelled, number_spelled, name_spelled, follow_on}

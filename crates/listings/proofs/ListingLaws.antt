@@ -2,19 +2,15 @@
 use Prim.Native.Nat.{ℕ, zero, suc, ◌+◌, ◌-◌, ◌≤◌, ◌<◌}
 use native.Mathlib.Omega.{arith}
 use native.Mathlib.Numerals.{add-one}
-use mathlib.Core.Bool.{Bool, true, false, cond, not, ◌&&◌, ◌||◌}
+use mathlib.Core.Bool.{Bool, true, false, cond}
 use mathlib.Core.List.{List, [], ◌∷◌}
-use mathlib.Core.Logic.{◌≢◌}
-use mathlib.Core.Path.{◌≡◌, refl, sym, ap, ap₂, ◌∙◌}
+use mathlib.Core.Path.{◌≡◌, refl, sym, ap, ◌∙◌}
 use lib.ListN.{length, get_or}
-use lib.Dec.{eqb, leb, ltb}
+use lib.Dec.{eqb, ltb}
 use borrow.Author.Tests.{eq-eqb, ne_eqb, eqb-false, lt-ltb, le-ltb, ltb-true, ltb-false}
 use Rattle.rules.specs.Text.{any}
-use Rattle.rules.specs.State.{Symbol, symbol, State, name_is, is_symbol, position_of, undefined_only, different_names, highest, high}
-use Rattle.rules.specs.Calls.{Lent, wrong_length, damaged, holding, bit, memory_answer, memory, symbol_none, symbol_is, symbol_at, symbols, undefined_none, undefined_is, undefined_at, undefined}
-use Rattle.rules.specs.declared.answer.MemoryAnswer.{MemoryAnswer}
-use Rattle.rules.specs.declared.answer.SymbolAnswer.{SymbolAnswer}
-use Rattle.rules.specs.declared.answer.UndefinedAnswer.{UndefinedAnswer}
+use Rattle.rules.specs.State.{Symbol, State, name_is, is_symbol, position_of, undefined_only, different_names, highest, high}
+use Rattle.rules.specs.Calls.{holding, memory_answer, memory, symbol_none, symbol_at, symbols, undefined_none, undefined_at, undefined}
 use Rattle.rules.proofs.TestLaws.{none_first, none_rest}
 use Rattle.rules.proofs.TableLaws.{different_cons}
 use Rattle.state.specs.Layout.{lent}

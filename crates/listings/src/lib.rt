@@ -2,7 +2,7 @@
 #![tactic(auto)]
 
 ghost use Rattle.std.specs.Prelude.{◌≡◌};
-ghost use Rattle.rules.specs.Calls.{symbol_none, undefined_none, memory as memory_answer_lem, symbols as symbols_answer, undefined as undefined_answer};
+ghost use Rattle.rules.specs.Calls.{symbol_none, undefined_none, memory as memory_answer, symbols as symbols_answer, undefined as undefined_answer};
 ghost use Rattle.state.specs.Layout.{lent};
 
 use rules::answer::{DONE, MemoryAnswer, SymbolAnswer, UndefinedAnswer};
@@ -13,7 +13,7 @@ use state::words::{high, highest};
 
 // HIGH.
 pub fn memory(state: &[u64]) -> MemoryAnswer
-    ensures { result ≡ memory_answer_lem (lent state.now) }
+    ensures { result ≡ memory_answer (lent state.now) }
 {
     let k = refusal(state);
     if k != DONE {

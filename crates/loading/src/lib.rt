@@ -4,7 +4,7 @@
 ghost use Rattle.std.specs.Prelude.{◌≤◌, ◌≡◌, length};
 ghost use Rattle.rules.specs.Limits.{longest_file, work_size};
 ghost use Rattle.rules.specs.Load.{walked, walk_from, load_file};
-ghost use Rattle.rules.specs.Calls.{load_answer, load_outcome, load_lent, load as load_outcome_lem};
+ghost use Rattle.rules.specs.Calls.{load_answer, load_outcome, load_lent, load as load_called};
 ghost use Rattle.rules.specs.History.{work_fits};
 ghost use Rattle.rules.proofs.TestLaws.{Every};
 ghost use Rattle.rules.proofs.ReadingLaws.{ItemSound};
@@ -99,7 +99,7 @@ fn load_tested(state: &mut [u64], work: &mut [u64], file: &[u8]) -> LoadAnswer
 
 // LOAD. Work memory of the right length is zero afterwards.
 pub fn load(state: &mut [u64], work: &mut [u64], file: &[u8]) -> LoadAnswer
-    ensures { LoadCalled (load_outcome_lem (lent state.old) (work_fits work.old) file.now) state.old work.old result state.new work.new }
+    ensures { LoadCalled (load_called (lent state.old) (work_fits work.old) file.now) state.old work.old result state.new work.new }
 {
     if work.len() != WORK_CELLS {
         return answer(BUFFER, 0, 0, 0);

@@ -1,7 +1,7 @@
 -- The pass over the entries: each turn in the words of the code.
-use Prim.Native.Nat.{ℕ, ◌+◌, ◌-◌, ◌/◌, ◌%◌, ◌<◌, ◌≤◌}
+use Prim.Native.Nat.{ℕ, ◌+◌, ◌-◌, ◌/◌, ◌<◌, ◌≤◌}
 use native.Mathlib.Omega.{arith}
-use mathlib.Core.Bool.{Bool, true, false, cond, not, ◌&&◌, ◌||◌, or-true, or_assoc}
+use mathlib.Core.Bool.{Bool, true, false, cond, not, ◌||◌, or-true}
 use mathlib.Core.List.{List, [], ◌∷◌, map}
 use mathlib.Core.Path.{◌≡◌, refl, sym, ap, ap₂, subst, ◌∙◌}
 use lib.ListN.{length, get_or}
@@ -12,14 +12,14 @@ use Rattle.rules.specs.State.{Symbol, is_defined, State}
 use Rattle.rules.specs.Placing.{entries_in, entry_name, value_at, define, define_all, twice}
 use Rattle.rules.specs.Calls.{with_symbols}
 use Rattle.rules.specs.declared.line.Entry.{Entry}
-use Rattle.rules.proofs.BoolLaws.{cond_cases, never, or_off}
+use Rattle.rules.proofs.BoolLaws.{cond_cases, or_off}
 use Rattle.rules.proofs.TableLaws.{defined_define}
 use Rattle.rules.proofs.SoundLaws.{define_all_longer}
 use Rattle.tables.specs.Tables.{low16}
 use Rattle.state.specs.Layout.{decode}
-use Rattle.state.specs.Good.{Good, Holds}
+use Rattle.state.specs.Good.{Good}
 use Rattle.state.specs.Table.{Joined}
-use Rattle.tables.specs.Heads.{parts_from, names_in, is_entry, is_relocated, entry_of, value_of}
+use Rattle.tables.specs.Heads.{parts_from, is_entry, is_relocated, entry_of, value_of}
 use Rattle.placing.specs.Passes.{over_range, is_over, repeated}
 use Rattle.tables.proofs.HeadLaws.{parts_done, parts_next, entries_cons}
 use Rattle.placing.proofs.PassLaws.{over_turn}

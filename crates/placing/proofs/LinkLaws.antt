@@ -6,13 +6,13 @@ use mathlib.Core.Bool.{Bool, true, false, cond, ◌||◌, or-true}
 use mathlib.Core.List.{List, [], ◌∷◌, map}
 use mathlib.Core.Logic.{◌≢◌}
 use mathlib.Core.Path.{◌≡◌, refl, sym, ap, ap₂, subst, ◌∙◌}
-use lib.ListN.{length, get_or, set, take, length-set, get_or-map}
+use lib.ListN.{length, get_or, set, take, length-set}
 use lib.Seq.{set-set, set_comm, set_out, get_or-set_same, get_or-set_other, get_or-take}
 use lib.Dec.{eqb, ltb}
 use borrow.Author.Tests.{eqb-false, ltb-false, ltb-true}
 use Rattle.rules.specs.Text.{any}
 use Rattle.rules.specs.State.{Symbol, name_is, is_symbol, position_of, Word, unplaced, plain, refers, is_placed}
-use Rattle.rules.specs.Placing.{Code, external_name, mention, mention_all, linked, put_all, bad_argument}
+use Rattle.rules.specs.Placing.{Code, mention, mention_all, linked, put_all, bad_argument}
 use Rattle.rules.proofs.OverlapLaws.{clash}
 use Rattle.rules.specs.declared.line.Relocation.{Relocation}
 use Rattle.rules.specs.declared.line.Relocation.TheVariants.{Plain, External, Unread}

@@ -1,27 +1,26 @@
 -- The pass over the externals: each turn in the words of the code, and the positions that it remembers.
-use Prim.Native.Nat.{ℕ, ◌+◌, ◌-◌, ◌%◌, ◌<◌, ◌≤◌}
+use Prim.Native.Nat.{ℕ, ◌+◌, ◌-◌, ◌<◌, ◌≤◌}
 use native.Mathlib.Numerals.{add-one}
 use native.Mathlib.Omega.{arith}
-use mathlib.Core.Bool.{Bool, true, false, cond, ◌||◌, or-true}
-use mathlib.Core.List.{List, [], ◌∷◌, ◌++◌, map, append_assoc, append-nil}
+use mathlib.Core.Bool.{true, false, cond}
+use mathlib.Core.List.{List, [], ◌∷◌, ◌++◌, append_assoc, append-nil}
 use mathlib.Core.Logic.{◌≢◌}
 use mathlib.Core.Path.{◌≡◌, refl, sym, ap, ap₂, subst, ◌∙◌}
 use lib.ListN.{length, get_or, set, take, length-set}
 use lib.Seq.{take-suc-set}
-use lib.Dec.{eqb, leb, ltb}
-use borrow.Author.Tests.{eq-eqb, ne_eqb, lt-ltb, leb-false, le-leb, lt-leb}
-use Rattle.rules.specs.State.{Symbol, name_is, position_of, is_symbol, State}
+use lib.Dec.{leb, ltb}
+use borrow.Author.Tests.{lt-ltb, leb-false, le-leb, lt-leb}
+use Rattle.rules.specs.State.{State}
 use Rattle.rules.specs.Placing.{externals_in, mention, mention_all}
 use Rattle.rules.specs.Calls.{with_symbols}
 use Rattle.rules.proofs.BoolLaws.{never}
 use Rattle.rules.proofs.SoundLaws.{mention_all_longer}
 use Rattle.state.specs.Layout.{decode}
-use Rattle.state.specs.Good.{Good, Holds}
-use Rattle.state.specs.Table.{Joined, MentionedAt}
+use Rattle.state.specs.Good.{Good}
+use Rattle.state.specs.Table.{MentionedAt}
 use Rattle.tables.specs.Heads.{parts_from, is_external}
 use Rattle.tables.proofs.HeadLaws.{parts_done, parts_next, externals_cons}
 use Rattle.placing.specs.Effects.{mentioned, positions_of, Mentioned, Mentioning}
-use Rattle.placing.specs.declared.symbols.Mentions.{Mentions}
 
 module _ (whole : List ℕ) (s₀ : State) (at : List ℕ) (n : ℕ) where
   module _ (cells : List ℕ) (i : ℕ) (h : 1 < length cells - i) (s : State)

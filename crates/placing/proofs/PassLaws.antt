@@ -2,8 +2,8 @@
 use Prim.Native.Nat.{ℕ, ◌+◌, ◌-◌, ◌<◌, ◌≤◌, max}
 use native.Mathlib.Omega.{arith}
 use mathlib.Core.Bool.{Bool, true, false, cond, ◌&&◌, ◌||◌, or-true, or_assoc}
-use mathlib.Core.List.{List, [], ◌∷◌}
-use mathlib.Core.Path.{◌≡◌, refl, sym, ap, ◌∙◌}
+use mathlib.Core.List.{List, ◌∷◌}
+use mathlib.Core.Path.{◌≡◌, refl, ap, ◌∙◌}
 use lib.ListN.{length, get_or}
 use lib.Dec.{eqb}
 use Rattle.rules.proofs.BoolLaws.{cond_cases}
@@ -12,7 +12,7 @@ use Rattle.rules.specs.State.{Symbol, is_defined}
 use Rattle.rules.specs.Placing.{entries_in, externals_in, code_in, length_in, bad_argument, twice}
 use Rattle.rules.specs.declared.reading.Part.{Part}
 use Rattle.tables.specs.Tables.{part_of}
-use Rattle.tables.specs.Heads.{parts_from, names_in, is_entry, is_external, block_end, is_relocated, value_of}
+use Rattle.tables.specs.Heads.{parts_from, names_in, is_entry, is_external, block_end, value_of}
 use Rattle.placing.specs.Passes.{bad_code, over_range, is_bad, is_over, repeated, is_repeated}
 use Rattle.tables.proofs.HeadLaws.{parts_done, parts_next, part_cases, length_cons, externals_cons, names_next, turned}
 

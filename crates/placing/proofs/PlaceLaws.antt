@@ -2,7 +2,7 @@
 use Prim.Native.Nat.{ℕ, ◌+◌, ◌<◌, ◌≤◌}
 use native.Mathlib.Omega.{arith}
 use mathlib.Core.Bool.{Bool, true, false, cond, not}
-use mathlib.Core.List.{List, map}
+use mathlib.Core.List.{List}
 use mathlib.Core.Logic.{◌≢◌}
 use mathlib.Core.Path.{◌≡◌, refl, sym, ap, ap₂, subst, ◌∙◌}
 use lib.ListN.{length, get_or, take}
@@ -11,8 +11,7 @@ use borrow.Author.Tests.{lt-ltb, le-ltb, leb-true, leb-false, ltb-true, ltb-fals
 use Rattle.rules.specs.Text.{all, any}
 use Rattle.rules.specs.Reading.{Module, module_at}
 use Rattle.rules.specs.State.{Symbol, State, state}
-use Rattle.rules.specs.Placing.{entries_in, externals_in, code_in, length_in, entry_name, define_all, mention_all, joined, put_all, no_room, overlaps, bad_arguments, out_of_range, duplicates, table_full, placing_fault, placed}
-use Rattle.rules.specs.Calls.{with_symbols}
+use Rattle.rules.specs.Placing.{entries_in, externals_in, code_in, length_in, define_all, mention_all, joined, put_all, no_room, overlaps, bad_arguments, out_of_range, duplicates, table_full, placing_fault, placed}
 use Rattle.rules.specs.declared.reading.Part.{Part}
 use Rattle.rules.proofs.TestLaws.{all_weaken}
 use Rattle.rules.proofs.PartLaws.{code_below}

@@ -3,7 +3,7 @@ use Rattle.std.specs.Prelude.{ℕ, ◌+◌, ◌≤◌, Bool, ◌&&◌, ◌||◌,
 use Rattle.rules.specs.Limits.{largest_number}
 use Rattle.rules.specs.Text.{any}
 use Rattle.rules.specs.State.{Symbol, is_defined}
-use Rattle.rules.specs.Placing.{Code, entries_in, externals_in, length_in, bad_argument, twice}
+use Rattle.rules.specs.Placing.{Code, externals_in, length_in, bad_argument, twice}
 use Rattle.rules.specs.declared.line.Entry.{Entry}
 use Rattle.rules.specs.declared.reading.Part.{Part}
 use Rattle.tables.specs.Heads.{parts_from, names_in, is_entry, is_relocated, value_of, is_reference, argument_of}

@@ -1,5 +1,5 @@
 -- Lines read one after the other come to what the reading of a file comes to, also in two parts, and over records in a row.
-use Prim.Native.Nat.{ℕ, suc, ◌+◌, ◌≤◌}
+use Prim.Native.Nat.{ℕ, ◌+◌, ◌≤◌}
 use mathlib.Core.Bool.{Bool, true, false}
 use mathlib.Core.List.{List, [], ◌∷◌, ◌++◌}
 use mathlib.Core.Path.{◌≡◌, refl, sym, ap, subst, ◌∙◌}
@@ -24,7 +24,7 @@ use Rattle.runs.specs.Modes.{one_done, after_records, room_for}
 use Rattle.runs.proofs.ModeLaws.{Does, adds, goes, record_step, room_behind, after_front}
 use Rattle.reading.specs.Lines.{gone_on, go_on, told, ended_at, RunFrom}
 use Rattle.reading.specs.declared.Reached.{Reached}
-use Rattle.reading.specs.declared.Reached.TheVariants.{Clean, Fault}
+use Rattle.reading.specs.declared.Reached.TheVariants.{Clean}
 
 -- ---- the fault
 

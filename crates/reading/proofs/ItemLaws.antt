@@ -70,8 +70,8 @@ module _ (parts rows : List ℕ) where
   record Final (all : Tables) : Type 0 where
     behind_parts : List ℕ
     behind_rows : List ℕ
-    part_cells_lem : parts ≡ part_cells all.parts ++ behind_parts
-    row_cells_lem : rows ≡ row_cells all.rows ++ behind_rows
+    part_cells : parts ≡ part_cells all.parts ++ behind_parts
+    row_cells : rows ≡ row_cells all.rows ++ behind_rows
     few_parts : length all.parts < 65536
     few_rows : length all.rows < 65536
 
@@ -90,7 +90,7 @@ module _ (parts rows : List ℕ) where
       → RowIs rows (length t.rows) r
   row_there t f e r q k s =
       let cells : rows ≡ row_cells (t.rows ++ r ∷ e.later_rows) ++ f.behind_rows =
-      f.row_cells_lem
+      f.row_cells
       ∙ ap (λ (l : List Row). row_cells l ++ f.behind_rows)
       (e.rows ∙ ap (λ (l : List Row). l ++ e.later_rows) q ∙ append_assoc t.rows (r ∷ []) e.later_rows) in
       subst (λ (c : List ℕ). RowIs c (length t.rows) r) (sym cells) (row_at_lem t.rows r e.later_rows f.behind_rows k s)
@@ -108,7 +108,7 @@ module _ (parts rows : List ℕ) where
         e.parts ∙ ap (λ (l : List Part). l ++ e.later_parts) (same ∙ o.last_parts) in
         let between : cells_in parts (start_in rows i) (end_in rows i) ≡ part_cells ps =
         ap (λ (c : List ℕ). cells_in c (start_in rows i) (end_in rows i))
-        (f.part_cells_lem ∙ ap (λ (l : List Part). part_cells l ++ f.behind_parts) now)
+        (f.part_cells ∙ ap (λ (l : List Part). part_cells l ++ f.behind_parts) now)
         ∙ cells_between _ _ o.closed ps e.later_parts f.behind_parts (start_in rows i) (end_in rows i)
         (o.first_part ∙ sym r.start)
         (sym (length-append o.closed ps) ∙ sym (ap length o.last_parts) ∙ sym r.end) in
@@ -296,8 +296,8 @@ tables_hold {file} {lent_parts} {lent_rows} {r} {parts} {rows} h =
     record {
       behind_parts = _;
       behind_rows = _;
-      part_cells_lem = h.part_cells_lem;
-      row_cells_lem = h.row_cells_lem;
+      part_cells = h.part_cells;
+      row_cells = h.row_cells;
       few_parts = omega (arith, h.parts, h.few_parts);
       few_rows = omega (arith, h.rows, h.few_rows);
     } in

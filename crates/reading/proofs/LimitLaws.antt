@@ -1,7 +1,7 @@
 -- How much a file can add to the tables: a line that adds something has a byte and an end of its own, so a part costs two bytes. A
 -- header has six bytes and its end; a module's row costs the END header and the title behind it, and a section's row the LSB and the
 -- LEB header: nine bytes at least.
-use Prim.Native.Nat.{ℕ, suc, ◌+◌, ◌-◌, ◌*◌, ◌≤◌}
+use Prim.Native.Nat.{ℕ, suc, ◌+◌, ◌*◌, ◌≤◌}
 use native.Mathlib.Omega.{arith}
 use mathlib.Core.Bool.{Bool, true, false, cond, not, ◌&&◌, ◌||◌, or-true}
 use mathlib.Core.List.{List, [], ◌∷◌}

@@ -2,7 +2,7 @@
 use Prim.Native.Nat.{ℕ, suc, ◌+◌, ◌≤◌, ◌<◌}
 use native.Mathlib.Omega.{arith}
 use mathlib.Core.Bool.{Bool, true, false}
-use mathlib.Core.List.{List, [], ◌∷◌, ◌++◌}
+use mathlib.Core.List.{List, [], ◌∷◌}
 use mathlib.Core.Path.{◌≡◌, refl, sym, ap, ap₂, subst, ◌∙◌}
 use lib.ListN.{length, drop, get_or, length-append}
 use lib.Seq.{drop-cons}
@@ -32,9 +32,8 @@ use Rattle.usual.specs.Words.{WordRead}
 use Rattle.usual.specs.declared.UsualWord.{UsualWord}
 use Rattle.reading.specs.TwoTables.{Tables, empty, add_part, add_module, add_section, emit, tables_from, tables_of}
 use Rattle.reading.specs.Filling.{filled_of, parts_in, rows_in, PartRoom, RowRoom, Fills, Lent, file_read, ReadInto}
-use Rattle.reading.specs.Lines.{gone_on, go_on, line_in, ended_at, reached_from, lines_read, RunFrom, Begins, TablesKept, ReadOn, LinesInto}
+use Rattle.reading.specs.Lines.{gone_on, go_on, line_in, ended_at, reached_from, lines_read, RunFrom, Begins, TablesKept, LinesInto}
 use Rattle.reading.specs.declared.Place.{Place}
-use Rattle.reading.specs.declared.Reached.{Reached}
 use Rattle.reading.specs.declared.Reached.TheVariants.{Clean, Fault}
 use Rattle.reading.specs.declared.FileRead.{FileRead}
 use Rattle.reading.specs.declared.LinesRead.{LinesRead}
@@ -56,8 +55,8 @@ module _ (file : List ℕ) (p : Place) (keep : Bool) (lent_parts lent_rows : Lis
   pub record Tabled (parts rows : List ℕ) (m : Mode) (f : Filled) (n at : ℕ) : Type 0 where
     pub here : Tables
     pub counts : f ≡ filled_of here
-    pub part_cells_lem : parts ≡ overwritten (parts_in here) lent_parts
-    pub row_cells_lem : rows ≡ overwritten (rows_in here) lent_rows
+    pub part_cells : parts ≡ overwritten (parts_in here) lent_parts
+    pub row_cells : rows ≡ overwritten (rows_in here) lent_rows
     pub part_size : length parts ≡ 65536
     pub row_size : length rows ≡ 14562
     pub begun : Begun here
@@ -89,8 +88,8 @@ module _ (file : List ℕ) (p : Place) (keep : Bool) (lent_parts lent_rows : Lis
             (record {
               here = empty;
               counts = e;
-              part_cells_lem = refl;
-              row_cells_lem = refl;
+              part_cells = refl;
+              row_cells = refl;
               part_size = (b.room k).part_room_is;
               row_size = (b.room k).row_room_is;
               begun = empty_begun;
@@ -183,9 +182,9 @@ module _ (file : List ℕ) (p : Place) (keep : Bool) (lent_parts lent_rows : Lis
           {k : Mode} {ps rs : List ℕ} {g : Filled} → go_on (n + 1) k (rest next) ≡ reached_from file p
           → length ps ≡ length parts → length rs ≡ length rows → (keep ≡ true → Tabled ps rs k g (n + 1) next)
           → Before ps rs k g (n + 1) next
-      proceed goes_on_lem x y d =
+      proceed goes_on x y d =
           record {
-            goes = goes_on_lem;
+            goes = goes_on;
             numbered = omega (arith, b.numbered, t.moves);
             ends = t.ends;
             short = b.short;
@@ -204,8 +203,8 @@ module _ (file : List ℕ) (p : Place) (keep : Bool) (lent_parts lent_rows : Lis
           record {
             here = d.here;
             counts = d.counts;
-            part_cells_lem = d.part_cells_lem;
-            row_cells_lem = d.row_cells_lem;
+            part_cells = d.part_cells;
+            row_cells = d.row_cells;
             part_size = d.part_size;
             row_size = d.row_size;
             begun = d.begun;
@@ -225,8 +224,8 @@ module _ (file : List ℕ) (p : Place) (keep : Bool) (lent_parts lent_rows : Lis
           record {
             here = add_part q d.here;
             counts = (h e).counts d.here d.counts;
-            part_cells_lem = (h e).cells d.here lent_parts d.counts d.part_cells_lem;
-            row_cells_lem = d.row_cells_lem;
+            part_cells = (h e).cells d.here lent_parts d.counts d.part_cells;
+            row_cells = d.row_cells;
             part_size = same ∙ d.part_size;
             row_size = d.row_size;
             begun = part_begun d.begun q;
@@ -248,8 +247,8 @@ module _ (file : List ℕ) (p : Place) (keep : Bool) (lent_parts lent_rows : Lis
             record {
               here = change d.here;
               counts = h.counts d.here d.counts;
-              part_cells_lem = d.part_cells_lem ∙ ap (λ (ps : List Part). overwritten (part_cells ps) lent_parts) (sym kept_parts);
-              row_cells_lem = h.cells d.here lent_rows d.counts d.row_cells_lem;
+              part_cells = d.part_cells ∙ ap (λ (ps : List Part). overwritten (part_cells ps) lent_parts) (sym kept_parts);
+              row_cells = h.cells d.here lent_rows d.counts d.row_cells;
               part_size = d.part_size;
               row_size = same ∙ d.row_size;
               begun = begun;
@@ -345,8 +344,8 @@ module _ (file : List ℕ) (p : Place) (keep : Bool) (lent_parts lent_rows : Lis
     kept d e =
         record {
           counts = d.counts ∙ ap filled_of e;
-          part_cells_lem = d.part_cells_lem ∙ ap (λ (t : Tables). overwritten (parts_in t) lent_parts) e;
-          row_cells_lem = d.row_cells_lem ∙ ap (λ (t : Tables). overwritten (rows_in t) lent_rows) e;
+          part_cells = d.part_cells ∙ ap (λ (t : Tables). overwritten (parts_in t) lent_parts) e;
+          row_cells = d.row_cells ∙ ap (λ (t : Tables). overwritten (rows_in t) lent_rows) e;
           few_parts = omega (arith, b.short, d.room, count_parts d);
           few_rows = omega (arith, b.short, d.room, count_rows d);
         }
@@ -401,8 +400,8 @@ module _ {file lent_parts lent_rows : List ℕ} {m : Mode} (at_start_lem : m ≡
             ∙ sym (reading_lines file);
         parts = ap (λ (f : Filled). f.parts) t.counts;
         rows = ap (λ (f : Filled). f.rows) t.counts;
-        part_cells_lem = t.part_cells_lem;
-        row_cells_lem = t.row_cells_lem;
+        part_cells = t.part_cells;
+        row_cells = t.row_cells;
         few_parts = t.few_parts;
         few_rows = t.few_rows;
       })

@@ -186,7 +186,7 @@ module _ {file lent_parts lent_rows : List ℕ} {r : FileRead} {parts rows : Lis
       (empty_ranges last) few in
       let more = drop (length (row_cells t.rows)) lent_rows in
       let all = range_at last t.rows [] 0 more refl ranged i (omega (arith, h.rows)) in
-      subst (λ (c : List ℕ). InRange last c i) (sym h.row_cells_lem) (rw z at all)
+      subst (λ (c : List ℕ). InRange last c i) (sym h.row_cells) (rw z at all)
 
   pub items_in_sound : Every ItemSound (items_in parts rows r.rows)
   items_in_sound = subst (Every ItemSound) (sym (tables_hold h)) (items_sound file)

@@ -1,5 +1,5 @@
 -- What the functions that fill the tables promise.
-use Rattle.std.specs.Prelude.{ℕ, ◌+◌, ◌*◌, ◌<◌, ◌≤◌, List, [], ◌∷◌, ◌++◌, ◌≡◌, length}
+use Rattle.std.specs.Prelude.{ℕ, ◌*◌, ◌<◌, ◌≤◌, List, [], ◌∷◌, ◌++◌, ◌≡◌, length}
 use Rattle.rules.specs.Limits.{longest_file}
 use Rattle.rules.specs.Calls.{overwritten}
 use Rattle.rules.specs.Reading.{reading_of}
@@ -59,7 +59,7 @@ pub record ReadInto (file lent_parts lent_rows : List ℕ) (r : FileRead) (parts
   pub reading : r.reading ≡ reading_of file
   pub parts : r.parts ≡ length (tables_of file).parts
   pub rows : r.rows ≡ length (tables_of file).rows
-  pub part_cells_lem : parts_left ≡ overwritten (parts_in (tables_of file)) lent_parts
-  pub row_cells_lem : rows_left ≡ overwritten (rows_in (tables_of file)) lent_rows
+  pub part_cells : parts_left ≡ overwritten (parts_in (tables_of file)) lent_parts
+  pub row_cells : rows_left ≡ overwritten (rows_in (tables_of file)) lent_rows
   pub few_parts : r.parts ≤ most_parts
   pub few_rows : r.rows ≤ most_rows

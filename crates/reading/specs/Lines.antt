@@ -78,8 +78,8 @@ pub record Begins (file : List ℕ) (p : Place) (keep : Bool) (parts rows : List
 -- the tables of the whole file, in front of what was lent
 pub record TablesKept (file lent_parts lent_rows : List ℕ) (f : Filled) (parts_left rows_left : List ℕ) : Type 0 where
   pub counts : f ≡ filled_of (tables_of file)
-  pub part_cells_lem : parts_left ≡ overwritten (parts_in (tables_of file)) lent_parts
-  pub row_cells_lem : rows_left ≡ overwritten (rows_in (tables_of file)) lent_rows
+  pub part_cells : parts_left ≡ overwritten (parts_in (tables_of file)) lent_parts
+  pub row_cells : rows_left ≡ overwritten (rows_in (tables_of file)) lent_rows
   pub few_parts : f.parts ≤ most_parts
   pub few_rows : f.rows ≤ most_rows
 

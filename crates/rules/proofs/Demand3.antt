@@ -243,7 +243,7 @@ section_taken s file good done before after line ms e =
     let different = items_different (progress (walking s) 0) before (sound_different s good) in
     record {
       least = section_least ms p.walk passed.2 different (rw passed.1 at there);
-      goes_on_lem =
+      goes_on =
           ap (λ (q : Progress). q.walk) (items_append (progress (walking s) 0) before (section line ms ∷ []))
           ∙ ap (λ (w : Walk). (searched ms w).now) passed.1;
     }
@@ -266,4 +266,4 @@ pub library_least : (s t : State) (file : List ℕ) (line : ℕ) (ms : List Modu
 unfolding walk_items
 library_least s t file line ms d e =
     let here : TakesLeast (walking s) ms (walk_from s (section line ms ∷ [])).walk = d.sections [] [] line ms e in
-    (here.least, d.ends ∙ ap (λ is. (walk_from s is).walk.state) e ∙ ap (λ (w : Walk). w.state) here.goes_on_lem)
+    (here.least, d.ends ∙ ap (λ is. (walk_from s is).walk.state) e ∙ ap (λ (w : Walk). w.state) here.goes_on)

@@ -57,7 +57,7 @@ pub record LeastSufficient (table : List Symbol) (ms : List Module) (taken : Mod
 -- those that the search above takes, begun from that table", and what this one search ends in is where the walk goes on
 pub record TakesLeast (w : Walk) (ms : List Module) (v : Walk) : Type 0 where
   pub least : LeastSufficient w.state.symbols ms (searched ms w).taken
-  pub goes_on_lem : v ≡ (searched ms w).now
+  pub goes_on : v ≡ (searched ms w).now
 
 -- demand 3 of a load of this file from s that leaves t: "take any library section of the file", and "the state that the load answers
 -- is the one that this walk ends in"

@@ -1,8 +1,8 @@
 -- The candidates: marked for a name, for the undefined symbols from a position on, and after a module.
-use Prim.Native.Nat.{ℕ, zero, suc, ◌+◌, ◌-◌, ◌≤◌, ◌<◌}
+use Prim.Native.Nat.{ℕ, suc, ◌+◌, ◌-◌, ◌≤◌, ◌<◌}
 use native.Mathlib.Omega.{arith}
 use native.Mathlib.Decide.{ℕ_discrete}
-use mathlib.Core.Bool.{Bool, true, false, cond, not, ◌&&◌, ◌||◌}
+use mathlib.Core.Bool.{Bool, true, false, not, ◌&&◌, ◌||◌}
 use mathlib.Core.List.{List, [], ◌∷◌}
 use mathlib.Core.Logic.{◌⊎◌, inl, inr, ◌≢◌}
 use mathlib.Core.Path.{◌≡◌, refl, sym, ap, subst, ◌∙◌}
@@ -21,7 +21,7 @@ use Rattle.tables.specs.Tables.{module_in}
 use Rattle.state.specs.Layout.{decode}
 use Rattle.state.specs.Table.{listed, no_symbol}
 use Rattle.state.specs.declared.table.Listed.{Listed}
-use Rattle.index.specs.Index.{named, owner_at, Indexed, Found, Owns}
+use Rattle.index.specs.Index.{named, owner_at, Found, Owns}
 use Rattle.rules.specs.declared.answer.Refusal.{Refusal}
 use Rattle.tables.specs.declared.rows.Section.{Section}
 use Rattle.placing.specs.Walks.{Agrees, PlacedRow}

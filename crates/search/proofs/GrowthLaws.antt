@@ -1,10 +1,10 @@
 -- What stands undefined in a table that a module has joined: it stood so before, or behind the symbols of before.
-use Prim.Native.Nat.{ℕ, zero, suc, ◌+◌, ◌≤◌}
+use Prim.Native.Nat.{ℕ, zero, suc, ◌≤◌}
 use native.Mathlib.Omega.{arith}
 use mathlib.Core.Bool.{Bool, true, false, cond, not, ◌&&◌, ◌||◌}
-use mathlib.Core.List.{List, [], ◌∷◌, ◌++◌}
+use mathlib.Core.List.{List, [], ◌∷◌}
 use mathlib.Core.Logic.{◌⊎◌, inl, inr}
-use mathlib.Core.Path.{◌≡◌, refl, sym, ap, subst, ◌∙◌}
+use mathlib.Core.Path.{◌≡◌, refl, sym, ap, ◌∙◌}
 use lib.ListN.{length, take, drop, take-append-drop}
 use lib.Seq.{take-length}
 use Rattle.rules.specs.Text.{any}
@@ -12,7 +12,7 @@ use Rattle.rules.specs.Reading.{Module}
 use Rattle.rules.specs.State.{Symbol, symbol, name_is, is_undefined}
 use Rattle.rules.specs.Placing.{value_at, define, mention, define_all, mention_all, joined, entries, externals}
 use Rattle.rules.specs.declared.line.Entry.{Entry}
-use Rattle.rules.proofs.BoolLaws.{never, or_on, any_append}
+use Rattle.rules.proofs.BoolLaws.{or_on, any_append}
 use Rattle.rules.proofs.SoundLaws.{define_longer, mention_longer}
 
 -- the table u has come out of t: it is as long, and what is undefined among the symbols of t was so in t

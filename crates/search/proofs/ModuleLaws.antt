@@ -1,20 +1,15 @@
 -- Whether one module of the tables is needed.
-use Prim.Native.Nat.{ℕ, ◌+◌, ◌-◌, ◌*◌, ◌/◌, ◌%◌, ◌<◌, ◌≤◌, min, max}
-use native.Mathlib.Omega.{arith}
+use Prim.Native.Nat.{ℕ, ◌+◌, ◌-◌, ◌<◌, ◌≤◌}
 use mathlib.Core.Bool.{Bool, true, false, cond, ◌&&◌, ◌||◌}
-use mathlib.Core.List.{List, [], ◌∷◌, map}
-use mathlib.Core.Path.{◌≡◌, refl, sym, ap, ap₂, ◌∙◌}
-use lib.ListN.{length, get_or, take, drop, length-drop, drop_of_length-le}
-use lib.Seq.{take_all, take-nil}
-use lib.Dec.{ltb}
-use borrow.Author.Tests.{ltb-true, ltb-false}
+use mathlib.Core.List.{List, ◌∷◌}
+use mathlib.Core.Path.{◌≡◌, refl, ap, ◌∙◌}
+use lib.ListN.{length, get_or}
 use Rattle.rules.specs.Text.{any}
 use Rattle.rules.specs.Reading.{module_at}
 use Rattle.rules.specs.State.{State, is_undefined}
-use Rattle.rules.specs.Placing.{entries_in, entry_name}
+use Rattle.rules.specs.Placing.{entries_in}
 use Rattle.rules.specs.Load.{entry_names, is_needed}
 use Rattle.rules.specs.declared.reading.Part.{Part}
-use Rattle.tables.specs.Tables.{parts_of, body_in, start_in, end_in, cells_in}
 use Rattle.tables.specs.Heads.{parts_from, is_entry}
 use Rattle.tables.specs.Heads.{names_in}
 use Rattle.tables.proofs.HeadLaws.{parts_done}

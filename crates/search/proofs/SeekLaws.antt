@@ -1,24 +1,22 @@
 -- The rounds of a section's search, one turn a round.
-use Prim.Native.Nat.{ℕ, zero, suc, ◌+◌, ◌-◌, ◌<◌, ◌≤◌, min}
+use Prim.Native.Nat.{ℕ, zero, suc, ◌+◌, ◌<◌, ◌≤◌}
 use native.Mathlib.Omega.{arith}
 use mathlib.Core.Bool.{Bool, true, false, cond}
-use mathlib.Core.List.{List, [], ◌∷◌}
-use mathlib.Core.Logic.{◌≢◌}
+use mathlib.Core.List.{List}
 use mathlib.Core.Path.{◌≡◌, refl, sym, ap, ap₂, subst, ◌∙◌}
 use lib.ListN.{length, get_or, replicate}
 use lib.Dec.{eqb}
 use borrow.Author.Tests.{eq-eqb, ne_eqb}
 use Rattle.rules.specs.Reading.{Module}
-use Rattle.rules.specs.Search.{ModuleSet, no_modules, Sweep, Found, found, round_more, round, search, count}
+use Rattle.rules.specs.Search.{ModuleSet, no_modules, Found, found, round_more, round, search, count}
 use Rattle.rules.specs.Load.{Walk, walk, takes, place, searched}
-use Rattle.rules.proofs.SearchLaws.{count_most, round_took}
+use Rattle.rules.proofs.SearchLaws.{round_took}
 use Rattle.rules.proofs.FuelLaws.{rounds_from, rounds_turn}
 use Rattle.tables.specs.Tables.{modules_in}
 use Rattle.state.specs.Layout.{decode}
-use Rattle.state.specs.Good.{Good}
 use Rattle.rules.specs.declared.answer.Refusal.{Refusal}
 use Rattle.placing.specs.Walks.{Agrees}
-use Rattle.search.specs.Searching.{set_of, RoundIs, Rounded, Sought, later, Seeking}
+use Rattle.search.specs.Searching.{set_of, Rounded, later, Seeking}
 use Rattle.search.specs.declared.rounds.Round.{Round}
 use Rattle.search.proofs.SweepLaws.{same_sets}
 

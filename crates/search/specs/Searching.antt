@@ -1,5 +1,5 @@
 -- How the search of a section says what it did: the walk of the definitions, beside a refusal and state memory.
-use Rattle.std.specs.Prelude.{ℕ, suc, ◌+◌, ◌≤◌, ◌<◌, Bool, true, false, cond, not, ◌&&◌, ◌||◌, List, ◌≡◌, length, get_or, eqb}
+use Rattle.std.specs.Prelude.{ℕ, suc, ◌+◌, ◌≤◌, ◌<◌, Bool, false, cond, not, ◌&&◌, ◌||◌, List, ◌≡◌, length, get_or, eqb}
 use Rattle.rules.specs.Limits.{most_modules}
 use Rattle.rules.specs.Answers.{DONE}
 use Rattle.rules.specs.Reading.{Module}

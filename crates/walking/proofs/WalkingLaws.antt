@@ -1,17 +1,17 @@
 -- The walk over the rows, step by step.
-use Prim.Native.Nat.{ℕ, zero, suc, ◌+◌, ◌-◌, ◌*◌, ◌≤◌, ◌<◌, max}
+use Prim.Native.Nat.{ℕ, zero, suc, ◌+◌, ◌-◌, ◌≤◌, ◌<◌}
 use native.Mathlib.Nat.{add-zero}
 use native.Mathlib.Omega.{arith}
-use mathlib.Core.Bool.{Bool, true, false, cond, ◌&&◌, true≢false}
-use mathlib.Core.List.{List, [], ◌∷◌}
+use mathlib.Core.Bool.{Bool, true, false, cond, true≢false}
+use mathlib.Core.List.{List, ◌∷◌}
 use mathlib.Core.Logic.{◌≢◌}
 use mathlib.Core.Path.{◌≡◌, refl, sym, ap, ap₂, subst, ◌∙◌}
 use lib.ListN.{length, length-map}
 use lib.Dec.{eqb}
 use borrow.Author.Tests.{eq-eqb, ne_eqb}
-use Rattle.rules.specs.Reading.{Module, Item, free, section}
-use Rattle.rules.specs.Placing.{entries, externals, entry_name, twice}
-use Rattle.rules.specs.Load.{refusal, Walk, place, searched, entry_names, section_names, test_section, Progress, progress, walk_item, walk_items}
+use Rattle.rules.specs.Reading.{Module, Item, free}
+use Rattle.rules.specs.Placing.{entries, entry_name, twice}
+use Rattle.rules.specs.Load.{refusal, searched, entry_names, section_names, test_section, Progress, progress, walk_item, walk_items}
 use Rattle.rules.proofs.TestLaws.{Every}
 use Rattle.rules.proofs.ReadingLaws.{ModuleSound, ItemSound}
 use Rattle.tables.specs.Tables.{kind_in, free_row, section_row, line_in, start_in, end_in, module_in, modules_in, section_in, items_from_row, items_in, RowsOf}
@@ -19,7 +19,7 @@ use Rattle.tables.specs.declared.rows.Section.{Section}
 use Rattle.rules.specs.declared.answer.Refusal.{Refusal}
 use Rattle.state.specs.Good.{Good}
 use Rattle.index.specs.Index.{size, Tested}
-use Rattle.placing.specs.Walks.{Agrees, PlacedRow}
+use Rattle.placing.specs.Walks.{PlacedRow}
 use Rattle.placing.proofs.PlacedLaws.{goes_on_lem, stands}
 use Rattle.search.specs.Searching.{SectionSound, Sought}
 use Rattle.search.proofs.SeekLaws.{length_modules}

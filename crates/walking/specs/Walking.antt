@@ -1,8 +1,8 @@
 -- How the walk over the rows says what it did.
-use Rattle.std.specs.Prelude.{ℕ, ◌+◌, ◌*◌, ◌<◌, ◌≤◌, Bool, cond, List, ◌≡◌, length, eqb}
+use Rattle.std.specs.Prelude.{ℕ, ◌+◌, ◌*◌, ◌<◌, ◌≤◌, cond, List, ◌≡◌, length, eqb}
 use Rattle.rules.specs.Limits.{most_entries}
 use Rattle.rules.specs.Answers.{DONE}
-use Rattle.rules.specs.Reading.{Module, Item, free, section}
+use Rattle.rules.specs.Reading.{Module, Item, free}
 use Rattle.rules.proofs.ReadingLaws.{ModuleSound, ItemSound}
 use Rattle.rules.specs.Load.{refusal, Walk, Progress, walk_item, walk_items, test_section, entry_names}
 use Rattle.rules.specs.declared.answer.Refusal.{Refusal}

@@ -3,7 +3,6 @@
 use native.Mathlib.Omega.{arith}
 use mathlib.Core.Path.{sym}
 use Rattle.advising.proofs.PartLaws.{front_long, next_line_lem, known, new}
-use borrow.Author.Rules.{rules}
 use Rattle.advising.proofs.early_fault.Goals as goal
 
 pub slice_bounds-read_on-end : goal.slice_bounds-read_on-end

@@ -1,7 +1,7 @@
 -- `advising::lines_end` meets its contract: the bytes behind the last LF are in no whole line.
 -- Assumes nothing.
 use native.Mathlib.Omega.{arith}
-use Rattle.advising.proofs.EndLaws.{Sought, sought, found, on, no_end}
+use Rattle.advising.proofs.EndLaws.{sought, found, on, no_end}
 use Rattle.advising.proofs.lines_end.Goals as goal
 
 pub loop-end-init : goal.loop-end-init

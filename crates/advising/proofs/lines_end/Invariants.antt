@@ -1,5 +1,4 @@
-use native.Mathlib.Omega.{arith}
-use Rattle.advising.proofs.EndLaws.{Sought, sought, found, on, no_end}
+use Rattle.advising.proofs.EndLaws.{Sought}
 use Rattle.advising.proofs.lines_end.Given as goal
 
 abbrev pub invariant-loop-end : goal.invariant-loop-end

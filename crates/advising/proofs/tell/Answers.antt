@@ -1,6 +1,5 @@
 use mathlib.Core.Path.{sym, ap}
 use Rattle.reading.specs.Lines.{told}
-use borrow.Author.Rules.{rules}
 use Rattle.advising.proofs.tell.Goals as goal
 
 pub returns-in-Clean : goal.returns-in-Clean

@@ -5,7 +5,6 @@ use Rattle.state.specs.Layout.{decode}
 use Rattle.state.proofs.PromiseLaws.{called_stopped, called_done}
 use Rattle.commands.proofs.CommandLaws.{base_shut, base_over, base_done}
 use Rattle.soundness.proofs.RefusalLaws.{refused}
-use borrow.Author.Rules.{rules}
 use Rattle.commands.proofs.base.Goals as goal
 
 pub returns-then-k-ne-DONE : goal.returns-then-k-ne-DONE

@@ -4,7 +4,6 @@ use Rattle.rules.specs.Calls.{end, end_stopped}
 use Rattle.state.specs.Layout.{decode, mark_of}
 use Rattle.commands.proofs.CommandLaws.{ended_stopped, ended_done, end_broken, end_short, end_done_lem}
 use Rattle.soundness.proofs.RefusalLaws.{refused}
-use borrow.Author.Rules.{rules}
 use Rattle.commands.proofs.end.Goals as goal
 
 pub returns-then-k-ne-DONE : goal.returns-then-k-ne-DONE

@@ -6,7 +6,6 @@ use Rattle.text.specs.Values.{name_in}
 use Rattle.state.proofs.PromiseLaws.{called_stopped}
 use Rattle.commands.proofs.CommandLaws.{called_joined, called_kept, force_shut, force_illegal, force_done, force_full}
 use Rattle.soundness.proofs.RefusalLaws.{refused}
-use borrow.Author.Rules.{rules}
 use Rattle.commands.proofs.force.Goals as goal
 
 pub returns-then-k-ne-DONE : goal.returns-then-k-ne-DONE

@@ -1,7 +1,6 @@
 use Rattle.rules.specs.State.{fresh}
 use Rattle.state.proofs.PromiseLaws.{called_stopped, called_done}
 use Rattle.commands.proofs.CommandLaws.{reset_short, reset_done}
-use borrow.Author.Rules.{rules}
 use Rattle.commands.proofs.reset.Goals as goal
 
 pub returns-then-state-ne-SIZE : goal.returns-then-state-ne-SIZE

@@ -2,7 +2,6 @@
 -- Assumes nothing.
 use mathlib.Core.Path.{refl}
 use Rattle.framing.proofs.FramingLaws.{nothing, code_said}
-use borrow.Author.Rules.{rules}
 use Rattle.framing.proofs.code_header.Goals as goal
 
 pub returns-then-n-i : goal.returns-then-n-i

@@ -1,7 +1,6 @@
 -- `framing::ended` meets its contract: the marker, and the line's end behind it; what is declined promises nothing.
 -- Assumes nothing.
 use mathlib.Core.Path.{refl}
-use borrow.Author.Rules.{rules}
 use Rattle.framing.proofs.FramingLaws.{nothing}
 use Rattle.framing.proofs.ended.Goals as goal
 

@@ -3,7 +3,6 @@
 use native.Mathlib.Omega.{arith}
 use mathlib.Core.Path.{refl}
 use Rattle.framing.proofs.FramingLaws.{nothing, begins, end_said, title_said, library_start_said, library_end_said}
-use borrow.Author.Rules.{rules}
 use Rattle.framing.proofs.header.Goals as goal
 
 pub returns-then-start-file : goal.returns-then-start-file

@@ -1,8 +1,6 @@
 -- `framing::marker_end` meets its contract: each code has its text, a space and the marker of its block.
 -- Assumes nothing.
-use native.Mathlib.Omega.{arith}
 use mathlib.Core.Path.{refl}
-use borrow.Author.Rules.{rules}
 use Rattle.rules.specs.Text.{bytes, all}
 use Rattle.rules.specs.Line.{headers, row_in, row_of, marker_in}
 use Rattle.framing.proofs.FramingLaws.{marker_found, no_marker}

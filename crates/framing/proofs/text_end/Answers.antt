@@ -1,10 +1,6 @@
 -- `framing::text_end` meets its contract: the bytes are those of the text, one by one.
 -- Assumes nothing.
-use Prim.Native.Nat.{◌+◌, ◌-◌, ◌≤◌}
-use mathlib.Core.Path.{◌≡◌}
-use lib.ListN.{length}
 use borrow.Author.Rules.{rules}
-use Rattle.text.specs.Scan.{part}
 use Rattle.framing.proofs.FramingLaws.{text_start, text_step, text_found, no_text}
 use Rattle.framing.proofs.text_end.Goals as goal
 

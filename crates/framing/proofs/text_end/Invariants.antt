@@ -1,9 +1,7 @@
 use Prim.Native.Nat.{◌+◌, ◌-◌, ◌≤◌}
 use mathlib.Core.Path.{◌≡◌}
 use lib.ListN.{length}
-use borrow.Author.Rules.{rules}
 use Rattle.text.specs.Scan.{part}
-use Rattle.framing.proofs.FramingLaws.{text_start, text_step, text_found, no_text}
 use Rattle.framing.proofs.text_end.Given as goal
 
 abbrev pub invariant-loop-k : goal.invariant-loop-k

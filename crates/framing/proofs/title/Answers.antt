@@ -2,7 +2,6 @@
 -- Assumes nothing.
 use Rattle.text.specs.Scan.{part}
 use Rattle.framing.proofs.FramingLaws.{nothing, name_read, opening_said, closing_said}
-use borrow.Author.Rules.{rules}
 use Rattle.framing.proofs.title.Goals as goal
 
 pub returns-then-end-start : goal.returns-then-end-start

@@ -1,6 +1,5 @@
 -- `framing::usual_frame` meets its contract: headers and titles by their own functions; what is declined promises nothing.
 -- Assumes nothing.
-use borrow.Author.Rules.{rules}
 use Rattle.framing.proofs.FramingLaws.{nothing}
 use Rattle.framing.proofs.usual_frame.Goals as goal
 

@@ -1,9 +1,8 @@
-use mathlib.Core.Path.{refl, sym, ◌∙◌}
+use mathlib.Core.Path.{refl, sym}
 use Rattle.state.specs.Layout.{decode}
 use Rattle.rules.specs.Calls.{memory, memory_answer}
 use Rattle.listings.proofs.ListingLaws.{memory_is}
 use Rattle.soundness.proofs.RefusalLaws.{refused}
-use borrow.Author.Rules.{rules}
 use Rattle.listings.proofs.memory.Goals as goal
 
 pub returns-then-k-ne-DONE : goal.returns-then-k-ne-DONE

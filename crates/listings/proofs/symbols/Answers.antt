@@ -4,7 +4,6 @@ use native.Mathlib.Omega.{arith}
 use Rattle.rules.specs.Calls.{symbols, symbol_none}
 use Rattle.listings.proofs.ListingLaws.{symbol_past, symbol_is_lem}
 use Rattle.soundness.proofs.RefusalLaws.{refused}
-use borrow.Author.Rules.{rules}
 use Rattle.listings.proofs.symbols.Goals as goal
 
 pub returns-then-k-ne-DONE : goal.returns-then-k-ne-DONE

@@ -4,7 +4,6 @@ use native.Mathlib.Omega.{arith}
 use Rattle.rules.specs.Calls.{undefined, undefined_none}
 use Rattle.listings.proofs.ListingLaws.{undefined_past_end, undefined_is_lem}
 use Rattle.soundness.proofs.RefusalLaws.{refused}
-use borrow.Author.Rules.{rules}
 use Rattle.listings.proofs.undefined.Goals as goal
 
 pub returns-then-k-ne-DONE : goal.returns-then-k-ne-DONE

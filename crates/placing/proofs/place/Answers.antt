@@ -5,7 +5,6 @@ use Rattle.tables.specs.Tables.{parts_of}
 use Rattle.state.specs.Layout.{decode}
 use Rattle.placing.proofs.PlaceLaws.{no_room_lem, placed_twice, bad_argument_lem, over_range_lem, entry_fault, table_full_lem, can_link, all_done}
 use Rattle.order.proofs.OrderedLaws.{same_table}
-use borrow.Author.Rules.{rules}
 use Rattle.placing.proofs.place.Goals as goal
 
 pub next_address-base-requires : goal.next_address-base-requires
@@ -15,8 +14,7 @@ pub overflow_add-end : goal.overflow_add-end
 overflow_add-end c = omega (arith, c.next_address-base.ensures, c.survey-extent.ensures.few, c.requires.good.0.tidy.low)
 
 pub returns-then-end-gt-PROGRAM_WORDS : goal.returns-then-end-gt-PROGRAM_WORDS
-returns-then-end-gt-PROGRAM_WORDS c =
-    (
+returns-then-end-gt-PROGRAM_WORDS c = (
   no_room_lem (decode c.args.state.now) (parts_of c.args.parts.now) c.requires.module_sound c.requires.good.0.tidy.full c.next_address-base.ensures c.survey-extent.ensures.length_is c.requires.good.0 c.if-end-gt-PROGRAM_WORDS.true,
   c.requires.good.1,
 )
@@ -28,8 +26,7 @@ pub shape_of-state-then-lay : goal.shape_of-state-then-lay
 shape_of-state-then-lay c = omega (arith, c.lay.ensures.good.long, c.requires.good.0.long)
 
 pub returns-then-lay : goal.returns-then-lay
-returns-then-lay c =
-    (
+returns-then-lay c = (
   placed_twice (decode c.args.state.now) (parts_of c.args.parts.now) c.requires.module_sound c.requires.good.0.tidy.full c.next_address-base.ensures c.survey-extent.ensures.length_is c.if-end-gt-PROGRAM_WORDS.false c.lay.ensures c.if-lay.true,
   same_table c.lay.ensures.table_is c.requires.good.1,
 )
@@ -38,8 +35,7 @@ pub shape_of-state-then-bad_arguments : goal.shape_of-state-then-bad_arguments
 shape_of-state-then-bad_arguments c = omega (arith, c.lay.ensures.good.long, c.requires.good.0.long)
 
 pub returns-then-bad_arguments : goal.returns-then-bad_arguments
-returns-then-bad_arguments c =
-    (
+returns-then-bad_arguments c = (
   bad_argument_lem (decode c.args.state.now) (parts_of c.args.parts.now) c.requires.module_sound c.requires.good.0.tidy.full c.next_address-base.ensures c.survey-extent.ensures.length_is c.if-end-gt-PROGRAM_WORDS.false c.lay.ensures c.if-lay.false c.survey-extent.ensures.externals_is c.bad_arguments.ensures c.if-bad_arguments.true,
   same_table c.lay.ensures.table_is c.requires.good.1,
 )
@@ -51,8 +47,7 @@ pub shape_of-state-then-out_of_range : goal.shape_of-state-then-out_of_range
 shape_of-state-then-out_of_range c = omega (arith, c.lay.ensures.good.long, c.requires.good.0.long)
 
 pub returns-then-out_of_range : goal.returns-then-out_of_range
-returns-then-out_of_range c =
-    (
+returns-then-out_of_range c = (
   over_range_lem (decode c.args.state.now) (parts_of c.args.parts.now) c.requires.module_sound c.requires.good.0.tidy.full c.next_address-base.ensures c.survey-extent.ensures.length_is c.if-end-gt-PROGRAM_WORDS.false c.lay.ensures c.if-lay.false c.survey-extent.ensures.externals_is c.bad_arguments.ensures c.if-bad_arguments.false c.out_of_range.ensures c.if-out_of_range.true,
   same_table c.lay.ensures.table_is c.requires.good.1,
 )
@@ -67,8 +62,7 @@ pub shape_of-state-then-fault-ne-DONE : goal.shape_of-state-then-fault-ne-DONE
 shape_of-state-then-fault-ne-DONE c = omega (arith, c.enter-fault.ensures.0.good.long, c.requires.good.0.long)
 
 pub returns-then-fault-ne-DONE : goal.returns-then-fault-ne-DONE
-returns-then-fault-ne-DONE c =
-    (
+returns-then-fault-ne-DONE c = (
   entry_fault (decode c.args.state.now) (parts_of c.args.parts.now) c.requires.module_sound c.requires.good.0.tidy.full c.next_address-base.ensures c.survey-extent.ensures.length_is c.if-end-gt-PROGRAM_WORDS.false c.lay.ensures c.if-lay.false c.survey-extent.ensures.externals_is c.bad_arguments.ensures c.if-bad_arguments.false c.out_of_range.ensures c.if-out_of_range.false c.enter-fault.ensures.0 c.if-fault-ne-DONE.true,
   c.enter-fault.ensures.1,
 )
@@ -83,8 +77,7 @@ pub shape_of-state-then-not-mentions : goal.shape_of-state-then-not-mentions
 shape_of-state-then-not-mentions c = omega (arith, c.mention_all-mentions.ensures.0.good.long, c.requires.good.0.long)
 
 pub returns-then-not-mentions : goal.returns-then-not-mentions
-returns-then-not-mentions c =
-    (
+returns-then-not-mentions c = (
   table_full_lem (decode c.args.state.now) (parts_of c.args.parts.now) c.requires.module_sound c.requires.good.0.tidy.full c.next_address-base.ensures c.survey-extent.ensures.length_is c.if-end-gt-PROGRAM_WORDS.false c.lay.ensures c.if-lay.false c.survey-extent.ensures.externals_is c.bad_arguments.ensures c.if-bad_arguments.false c.out_of_range.ensures c.if-out_of_range.false c.enter-fault.ensures.0 c.if-fault-ne-DONE.false c.mention_all-mentions.ensures.0 c.if-not-mentions.true,
   c.mention_all-mentions.ensures.1,
 )
@@ -102,8 +95,7 @@ pub shape_of-state : goal.shape_of-state
 shape_of-state c = omega (arith, c.set_next.ensures.good.long, c.requires.good.0.long)
 
 pub returns : goal.returns
-returns c =
-    (
+returns c = (
   all_done (decode c.args.state.now) (parts_of c.args.parts.now) c.requires.module_sound c.requires.good.0.tidy.full c.next_address-base.ensures c.survey-extent.ensures.length_is c.if-end-gt-PROGRAM_WORDS.false c.lay.ensures c.if-lay.false c.survey-extent.ensures.externals_is c.bad_arguments.ensures c.if-bad_arguments.false c.out_of_range.ensures c.if-out_of_range.false c.enter-fault.ensures.0 c.if-fault-ne-DONE.false c.mention_all-mentions.ensures.0 c.if-not-mentions.false c.link.ensures c.set_next.ensures,
   same_table (ap (λ (v : State). v.symbols) c.set_next.ensures.is ∙ ap (λ (v : State). v.symbols) c.link.ensures.is) c.mention_all-mentions.ensures.1,
 )

@@ -1,7 +1,6 @@
 use native.Mathlib.Omega.{arith}
 use mathlib.Core.Path.{sym, ◌∙◌}
 use Rattle.placing.proofs.PlacedLaws.{sound_lent, tried_row, line_row, place_refused, place_done, place_not}
-use borrow.Author.Rules.{rules}
 use Rattle.placing.proofs.place_row.Goals as goal
 
 pub returns-then-refusal-ne-DONE : goal.returns-then-refusal-ne-DONE
@@ -17,13 +16,12 @@ pub shape_of-state-then-number-eq-DONE : goal.shape_of-state-then-number-eq-DONE
 shape_of-state-then-number-eq-DONE c = omega (arith, c.place-number.ensures.0.good.long, c.requires.good.0.long)
 
 pub returns-then-number-eq-DONE : goal.returns-then-number-eq-DONE
-returns-then-number-eq-DONE c =
-    (
-      place_done c.if-refusal-ne-DONE.false
-          (tried_row c.args.parts.now c.args.rows.now c.args.row c.module_cells.ensures c.place-number.ensures.0)
-          c.if-number-eq-DONE.true,
-      c.place-number.ensures.1,
-    )
+returns-then-number-eq-DONE c = (
+  place_done c.if-refusal-ne-DONE.false
+      (tried_row c.args.parts.now c.args.rows.now c.args.row c.module_cells.ensures c.place-number.ensures.0)
+      c.if-number-eq-DONE.true,
+  c.place-number.ensures.1,
+)
 
 pub shape_of-order : goal.shape_of-order
 shape_of-order c = omega (arith, c.place-number.ensures.1.long, c.requires.good.1.long)

@@ -3,7 +3,6 @@
 use mathlib.Core.Path.{sym, ap, ◌∙◌}
 use Rattle.reading.specs.Lines.{ended_at}
 use Rattle.reading.proofs.LoopLaws.{begins_file, file_read_lem}
-use borrow.Author.Rules.{rules}
 use Rattle.reading.proofs.read_file.Goals as goal
 
 pub read_lines-read-requires : goal.read_lines-read-requires

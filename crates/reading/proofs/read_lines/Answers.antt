@@ -1,9 +1,6 @@
 -- `reading::read_lines` meets its contract: each way that a line can take is one law of LoopLaws.
 -- Assumes nothing.
-use Prim.Native.Nat.{◌-◌}
 use native.Mathlib.Omega.{arith}
-use borrow.Author.Rules.{rules}
-use lib.ListN.{length}
 use mathlib.Core.Path.{◌≡◌, refl, sym, ◌∙◌}
 use Rattle.rules.specs.Reading.{record_done}
 use Rattle.rules.specs.declared.line.Expected.TheVariants.{CodeRecord}
@@ -11,7 +8,7 @@ use Rattle.rules.specs.declared.reading.Mode.{Mode}
 use Rattle.rules.specs.declared.reading.Step.{Step}
 use Rattle.rules.specs.declared.reading.Step.TheVariants.{Add}
 use Rattle.runs.proofs.ModeLaws.{room_most}
-use Rattle.reading.proofs.LoopLaws.{Before, Turn, start, said_turn, word_turn, empty_turn, faulty, skipped, run_on, part_room_is, added, module_room, module_closed, section_room, section_closed, whole}
+use Rattle.reading.proofs.LoopLaws.{Turn, start, said_turn, word_turn, empty_turn, faulty, skipped, run_on, part_room_is, added, module_room, module_closed, section_room, section_closed, whole}
 use Rattle.reading.proofs.read_lines.Goals as goal
 use Rattle.reading.proofs.read_lines.Goals.{After-step_of-step, After-word_part}
 

@@ -1,5 +1,4 @@
 use Rattle.reading.proofs.LoopLaws.{begins_on}
-use borrow.Author.Rules.{rules}
 use Rattle.reading.proofs.read_on.Goals as goal
 
 pub read_lines-read-requires : goal.read_lines-read-requires

@@ -1,5 +1,4 @@
 use Rattle.reading.proofs.GoLaws.{no_run, a_run}
-use borrow.Author.Rules.{rules}
 use Rattle.reading.proofs.run_from.Goals as goal
 
 pub returns-then-keep : goal.returns-then-keep

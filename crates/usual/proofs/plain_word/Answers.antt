@@ -1,12 +1,10 @@
 -- `usual::plain_word` meets its contract: quarter by quarter, and nothing is promised where it declines.
 -- Assumes nothing.
-use Prim.Native.Nat.{◌-◌}
 use native.Mathlib.Omega.{arith}
 use mathlib.Core.Path.{sym, ◌∙◌}
 use borrow.Author.Rules.{rules}
-use borrow.Author.Tests.{not-false}
 use Rattle.line.proofs.NamedLaws.{declined}
-use Rattle.usual.proofs.WordLaws.{Front, front_start, front_room, front_step, front_behind, front_end}
+use Rattle.usual.proofs.WordLaws.{front_start, front_room, front_step, front_behind, front_end}
 use Rattle.usual.proofs.plain_word.Goals as goal
 
 pub loop-k-init : goal.loop-k-init

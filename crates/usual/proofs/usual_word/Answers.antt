@@ -1,6 +1,5 @@
 -- `usual::usual_word` meets its contract: only a code record is looked at.
 -- Assumes nothing.
-use borrow.Author.Rules.{rules}
 use Rattle.line.proofs.NamedLaws.{declined}
 use Rattle.usual.proofs.usual_word.Goals as goal
 

@@ -2,7 +2,6 @@ use native.Mathlib.Omega.{arith}
 use mathlib.Core.Path.{sym, ◌∙◌}
 use Rattle.tables.specs.Tables.{modules_in}
 use Rattle.walking.proofs.WalkingLaws.{tested_refused, tested_twice, tested_once, known_refused, known_tested}
-use borrow.Author.Rules.{rules}
 use Rattle.walking.proofs.test_section.Goals as goal
 
 pub returns-then-refusal-ne-DONE : goal.returns-then-refusal-ne-DONE

@@ -1,8 +1,6 @@
 use Prim.Native.Nat.{◌-◌, ◌*◌, ◌≤◌}
-use native.Mathlib.Omega.{arith}
-use mathlib.Core.Path.{◌≡◌, refl, sym}
+use mathlib.Core.Path.{◌≡◌}
 use lib.ListN.{length}
-use borrow.Author.Rules.{rules}
 use Rattle.rules.specs.Load.{Progress}
 use Rattle.rules.proofs.TestLaws.{Every}
 use Rattle.rules.proofs.ReadingLaws.{ItemSound}
@@ -11,7 +9,6 @@ use Rattle.state.specs.Good.{Good}
 use Rattle.order.specs.Order.{Ordered}
 use Rattle.index.specs.Index.{size}
 use Rattle.walking.specs.Walking.{section_rounds, unwalked, Tracks, Stands}
-use Rattle.walking.proofs.WalkingLaws.{row_sound, rest_sound, all_sound, stands_start, stands_next, stands_end}
 use Rattle.walking.proofs.walk.Given as goal
 
 abbrev pub invariant-loop-i : goal.invariant-loop-i

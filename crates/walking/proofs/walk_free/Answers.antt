@@ -1,5 +1,4 @@
 use Rattle.walking.proofs.WalkingLaws.{free_walked}
-use borrow.Author.Rules.{rules}
 use Rattle.walking.proofs.walk_free.Goals as goal
 
 pub returns : goal.returns

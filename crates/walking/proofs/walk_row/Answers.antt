@@ -1,6 +1,5 @@
 use mathlib.Core.Path.{sym, ◌∙◌}
 use Rattle.walking.proofs.WalkingLaws.{row_free, row_section, row_member}
-use borrow.Author.Rules.{rules}
 use Rattle.walking.proofs.walk_row.Goals as goal
 
 pub walk_free-requires : goal.walk_free-requires

@@ -1,6 +1,5 @@
 use native.Mathlib.Omega.{arith}
 use Rattle.walking.proofs.WalkingLaws.{section_is, section_fits, section_indexable, section_walked}
-use borrow.Author.Rules.{rules}
 use Rattle.walking.proofs.walk_section.Goals as goal
 
 pub test_section-tested-requires : goal.test_section-tested-requires

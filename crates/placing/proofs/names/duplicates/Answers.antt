@@ -1,12 +1,6 @@
-use borrow.Author.Rules.{rules}
 use native.Mathlib.Omega.{arith}
-use mathlib.Core.Path.{◌≡◌, refl, sym, ◌∙◌}
-use lib.ListN.{length}
-use Prim.Native.Nat.{◌-◌, ◌≤◌}
+use mathlib.Core.Path.{refl, sym, ◌∙◌}
 use Rattle.state.specs.Layout.{decode}
-use Rattle.tables.specs.Heads.{parts_from}
-use Rattle.placing.specs.Passes.{repeated}
-use Rattle.tables.specs.Heads.{names_in}
 use Rattle.placing.proofs.PassLaws.{repeated_turn, repeated_done}
 use Rattle.placing.proofs.names.duplicates.Goals as goal
 

@@ -1,13 +1,10 @@
-use borrow.Author.Rules.{rules}
-use native.Mathlib.Omega.{arith}
-use mathlib.Core.Path.{◌≡◌, refl, sym, ◌∙◌}
+use mathlib.Core.Path.{◌≡◌}
 use lib.ListN.{length}
 use Prim.Native.Nat.{◌-◌, ◌≤◌}
 use Rattle.state.specs.Layout.{decode}
 use Rattle.tables.specs.Heads.{parts_from}
 use Rattle.placing.specs.Passes.{repeated}
 use Rattle.tables.specs.Heads.{names_in}
-use Rattle.placing.proofs.PassLaws.{repeated_turn, repeated_done}
 use Rattle.placing.proofs.names.duplicates.Given as goal
 
 abbrev pub invariant-loop-i : goal.invariant-loop-i

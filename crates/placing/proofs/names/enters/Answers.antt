@@ -1,12 +1,5 @@
-use borrow.Author.Rules.{rules}
 use native.Mathlib.Omega.{arith}
-use mathlib.Core.Path.{◌≡◌, refl, sym, ◌∙◌}
-use lib.ListN.{length}
-use Prim.Native.Nat.{◌-◌, ◌≤◌}
-use lib.Dec.{eqb}
-use Rattle.rules.specs.Text.{any}
-use Rattle.tables.specs.Heads.{parts_from}
-use Rattle.tables.specs.Heads.{names_in}
+use mathlib.Core.Path.{refl, sym, ◌∙◌}
 use Rattle.placing.proofs.PassLaws.{named_turn, named_done}
 use Rattle.placing.proofs.names.enters.Goals as goal
 

@@ -1,5 +1,4 @@
 use mathlib.Core.Path.{sym, ◌∙◌}
-use borrow.Author.Rules.{rules}
 use Rattle.placing.proofs.names.is_entry_of.Goals as goal
 
 pub returns-then-is_entry : goal.returns-then-is_entry

@@ -1,6 +1,4 @@
 use mathlib.Core.Path.{sym, ◌∙◌}
-use borrow.Author.Tests.{not-true, not-false}
-use borrow.Author.Rules.{rules}
 use Rattle.placing.proofs.names.is_repeated.Goals as goal
 
 pub returns-then-not-is_entry : goal.returns-then-not-is_entry

@@ -1,16 +1,5 @@
 use native.Mathlib.Omega.{arith}
-use mathlib.Core.Path.{◌≡◌, refl}
-use lib.ListN.{length}
-use Prim.Native.Nat.{◌-◌, ◌≤◌}
-use mathlib.Core.Bool.{false}
-use Rattle.rules.specs.Text.{any}
-use Rattle.rules.specs.Placing.{entries_in}
-use Rattle.state.specs.Layout.{decode}
-use Rattle.state.specs.Good.{Good}
-use Rattle.order.specs.Order.{Ordered}
-use Rattle.tables.specs.Heads.{parts_from}
-use Rattle.placing.specs.Passes.{over_range}
-use Rattle.placing.specs.Effects.{Entering}
+use mathlib.Core.Path.{refl}
 use Rattle.placing.proofs.EntryLaws.{rest_in_range, enter_start, enter_next, enter_stop, enter_done}
 use Rattle.placing.proofs.symbols.enter.Goals as goal
 

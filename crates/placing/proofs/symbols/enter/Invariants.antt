@@ -1,5 +1,4 @@
-use native.Mathlib.Omega.{arith}
-use mathlib.Core.Path.{◌≡◌, refl}
+use mathlib.Core.Path.{◌≡◌}
 use lib.ListN.{length}
 use Prim.Native.Nat.{◌-◌, ◌≤◌}
 use mathlib.Core.Bool.{false}
@@ -11,7 +10,6 @@ use Rattle.order.specs.Order.{Ordered}
 use Rattle.tables.specs.Heads.{parts_from}
 use Rattle.placing.specs.Passes.{over_range}
 use Rattle.placing.specs.Effects.{Entering}
-use Rattle.placing.proofs.EntryLaws.{rest_in_range, enter_start, enter_next, enter_stop, enter_done}
 use Rattle.placing.proofs.symbols.enter.Given as goal
 
 abbrev pub invariant-loop-i : goal.invariant-loop-i

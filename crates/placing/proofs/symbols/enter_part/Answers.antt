@@ -1,7 +1,6 @@
 use native.Mathlib.Omega.{arith}
 use Rattle.placing.proofs.EntryLaws.{value_small, enter_skip, enter_second, enter_on, enter_full}
 use Rattle.order.proofs.OrderedLaws.{told_position}
-use borrow.Author.Rules.{rules}
 use mathlib.Core.Bool.{not}
 use mathlib.Core.Path.{ap}
 use Rattle.placing.proofs.symbols.enter_part.Goals as goal

@@ -1,5 +1,4 @@
 use mathlib.Core.Path.{sym, ◌∙◌}
-use borrow.Author.Rules.{rules}
 use Rattle.placing.proofs.symbols.full_fault.Goals as goal
 
 pub returns-then-duplicates : goal.returns-then-duplicates

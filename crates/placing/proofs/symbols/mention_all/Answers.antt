@@ -1,14 +1,8 @@
-use borrow.Author.Rules.{rules}
 use native.Mathlib.Omega.{arith}
-use mathlib.Core.Path.{◌≡◌, refl, sym, ◌∙◌}
-use lib.ListN.{length}
-use Prim.Native.Nat.{◌-◌, ◌≤◌}
+use mathlib.Core.Path.{refl, sym, ◌∙◌}
 use Rattle.rules.specs.Placing.{externals_in}
 use Rattle.state.specs.Layout.{decode}
-use Rattle.state.specs.Good.{Good}
-use Rattle.order.specs.Order.{Ordered}
 use Rattle.tables.specs.Heads.{parts_from}
-use Rattle.placing.specs.Effects.{Mentioning}
 use Rattle.placing.proofs.MentionLaws.{mention_skip, mention_index, mention_full, mention_put, mention_done}
 use Rattle.placing.proofs.symbols.mention_all.Goals as goal
 

@@ -1,6 +1,4 @@
-use borrow.Author.Rules.{rules}
-use native.Mathlib.Omega.{arith}
-use mathlib.Core.Path.{◌≡◌, refl, sym, ◌∙◌}
+use mathlib.Core.Path.{◌≡◌}
 use lib.ListN.{length}
 use Prim.Native.Nat.{◌-◌, ◌≤◌}
 use Rattle.rules.specs.Placing.{externals_in}
@@ -9,7 +7,6 @@ use Rattle.state.specs.Good.{Good}
 use Rattle.order.specs.Order.{Ordered}
 use Rattle.tables.specs.Heads.{parts_from}
 use Rattle.placing.specs.Effects.{Mentioning}
-use Rattle.placing.proofs.MentionLaws.{mention_skip, mention_index, mention_full, mention_put, mention_done}
 use Rattle.placing.proofs.symbols.mention_all.Given as goal
 
 abbrev pub invariant-loop-i : goal.invariant-loop-i

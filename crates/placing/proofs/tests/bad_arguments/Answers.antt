@@ -1,12 +1,5 @@
-use borrow.Author.Rules.{rules}
 use native.Mathlib.Omega.{arith}
-use mathlib.Core.Path.{◌≡◌, refl, sym, ◌∙◌}
-use lib.ListN.{length}
-use Prim.Native.Nat.{◌-◌, ◌≤◌}
-use Rattle.rules.specs.Text.{any}
-use Rattle.rules.specs.Placing.{code_in}
-use Rattle.tables.specs.Heads.{parts_from}
-use Rattle.placing.specs.Passes.{bad_code}
+use mathlib.Core.Path.{refl, sym, ◌∙◌}
 use Rattle.placing.proofs.PassLaws.{bad_turn, bad_done}
 use Rattle.placing.proofs.tests.bad_arguments.Goals as goal
 

@@ -1,5 +1,4 @@
 use mathlib.Core.Path.{sym, ◌∙◌}
-use borrow.Author.Rules.{rules}
 use Rattle.placing.specs.Passes.{is_over}
 use Rattle.placing.proofs.tests.is_over.Goals as goal
 

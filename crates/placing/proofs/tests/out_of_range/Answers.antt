@@ -1,12 +1,5 @@
-use borrow.Author.Rules.{rules}
 use native.Mathlib.Omega.{arith}
-use mathlib.Core.Path.{◌≡◌, refl, sym, ◌∙◌}
-use lib.ListN.{length}
-use Prim.Native.Nat.{◌-◌, ◌≤◌}
-use Rattle.rules.specs.Text.{any}
-use Rattle.rules.specs.Placing.{entries_in}
-use Rattle.tables.specs.Heads.{parts_from}
-use Rattle.placing.specs.Passes.{over_range}
+use mathlib.Core.Path.{refl, sym, ◌∙◌}
 use Rattle.placing.proofs.PassLaws.{over_turn, over_done}
 use Rattle.placing.proofs.tests.out_of_range.Goals as goal
 

@@ -1,13 +1,10 @@
-use borrow.Author.Rules.{rules}
-use native.Mathlib.Omega.{arith}
-use mathlib.Core.Path.{◌≡◌, refl, sym, ◌∙◌}
+use mathlib.Core.Path.{◌≡◌}
 use lib.ListN.{length}
 use Prim.Native.Nat.{◌-◌, ◌≤◌}
 use Rattle.rules.specs.Text.{any}
 use Rattle.rules.specs.Placing.{entries_in}
 use Rattle.tables.specs.Heads.{parts_from}
 use Rattle.placing.specs.Passes.{over_range}
-use Rattle.placing.proofs.PassLaws.{over_turn, over_done}
 use Rattle.placing.proofs.tests.out_of_range.Given as goal
 
 abbrev pub invariant-loop-i : goal.invariant-loop-i

@@ -1,13 +1,8 @@
-use borrow.Author.Rules.{rules}
-use native.Mathlib.Omega.{arith}
-use mathlib.Core.Path.{◌≡◌, refl, sym, ◌∙◌}
+use mathlib.Core.Path.{◌≡◌}
 use lib.ListN.{length}
 use Prim.Native.Nat.{◌+◌, ◌-◌, ◌≤◌, max}
-use lib.ListN.{get_or}
 use Rattle.rules.specs.Placing.{externals_in, length_in}
 use Rattle.tables.specs.Heads.{parts_from}
-use Rattle.tables.proofs.HeadLaws.{block_end_most}
-use Rattle.placing.proofs.PassLaws.{one_most, length_next, length_done, externals_next, externals_done}
 use Rattle.placing.proofs.tests.survey.Given as goal
 
 abbrev pub invariant-loop-i : goal.invariant-loop-i

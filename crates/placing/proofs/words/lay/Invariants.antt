@@ -1,7 +1,4 @@
-use Rattle.rules.proofs.BoolLaws.{never}
-use borrow.Author.Rules.{rules}
-use native.Mathlib.Omega.{arith}
-use mathlib.Core.Path.{◌≡◌, refl, sym, ◌∙◌}
+use mathlib.Core.Path.{◌≡◌}
 use lib.ListN.{length}
 use Prim.Native.Nat.{◌-◌, ◌≤◌}
 use Rattle.rules.specs.Placing.{code_in}
@@ -9,7 +6,6 @@ use Rattle.state.specs.Layout.{decode}
 use Rattle.state.specs.Good.{Good}
 use Rattle.tables.specs.Heads.{parts_from}
 use Rattle.placing.specs.Effects.{Laying}
-use Rattle.placing.proofs.WordLaws.{lay_table, lay_skip, lay_clash, lay_put, lay_done}
 use Rattle.placing.proofs.words.lay.Given as goal
 
 abbrev pub invariant-loop-i : goal.invariant-loop-i

@@ -1,13 +1,10 @@
-use borrow.Author.Rules.{rules}
 use native.Mathlib.Omega.{arith}
-use mathlib.Core.Path.{◌≡◌, refl, sym, ap, ◌∙◌}
+use mathlib.Core.Path.{refl, sym, ap, ◌∙◌}
 use lib.ListN.{length, get_or}
 use Prim.Native.Nat.{ℕ, ◌-◌, ◌≤◌, ◌<◌}
 use Rattle.rules.specs.Placing.{externals_in, code_in}
 use Rattle.state.specs.Layout.{decode}
-use Rattle.state.specs.Good.{Good}
 use Rattle.tables.specs.Heads.{parts_from}
-use Rattle.placing.specs.Effects.{Linking}
 use Rattle.placing.proofs.WordLaws.{link_number, link_skip, link_put, link_done}
 use Rattle.placing.proofs.words.link.Goals as goal
 use Rattle.placing.proofs.words.link.Goals.{After-argument}

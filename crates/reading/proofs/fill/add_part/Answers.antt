@@ -1,4 +1,3 @@
-use borrow.Author.Rules.{rules}
 use Rattle.reading.proofs.FillLaws.{fills_part}
 use Rattle.reading.proofs.fill.add_part.Goals as goal
 

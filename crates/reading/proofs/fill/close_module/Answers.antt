@@ -1,4 +1,3 @@
-use borrow.Author.Rules.{rules}
 use Rattle.reading.proofs.FillLaws.{fills_member, fills_free}
 use Rattle.reading.proofs.fill.close_module.Goals as goal
 

@@ -1,4 +1,3 @@
-use borrow.Author.Rules.{rules}
 use Rattle.reading.proofs.FillLaws.{fills_section}
 use Rattle.reading.proofs.fill.close_section.Goals as goal
 

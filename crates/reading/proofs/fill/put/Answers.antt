@@ -1,4 +1,3 @@
-use borrow.Author.Rules.{rules}
 use Rattle.reading.proofs.FillLaws.{put_two}
 use Rattle.reading.proofs.fill.put.Goals as goal
 

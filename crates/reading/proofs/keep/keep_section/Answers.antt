@@ -1,6 +1,4 @@
-use borrow.Author.Tests.{not-true, not-false}
 use Rattle.rules.proofs.BoolLaws.{never}
-use borrow.Author.Rules.{rules}
 use Rattle.reading.proofs.keep.keep_section.Goals as goal
 
 pub returns-then-not-keep : goal.returns-then-not-keep

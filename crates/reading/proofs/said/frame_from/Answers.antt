@@ -1,6 +1,5 @@
 -- `reading::said::frame_from` meets its contract: where lines are kept nothing is told.
 -- Assumes nothing.
-use borrow.Author.Rules.{rules}
 use Rattle.line.proofs.NamedLaws.{declined}
 use Rattle.reading.proofs.said.frame_from.Goals as goal
 

@@ -1,6 +1,5 @@
 -- `reading::said::said_at` meets its contract: by a header or a title in its usual form, or by the way that every line can go.
 -- Assumes nothing.
-use borrow.Author.Rules.{rules}
 use Rattle.reading.proofs.said.said_at.Goals as goal
 
 pub returns-then-frame : goal.returns-then-frame

@@ -1,7 +1,6 @@
 use Prim.Native.Nat.{◌-◌}
 use native.Mathlib.Omega.{arith}
 use Rattle.search.proofs.CandidateLaws.{marked_none, marked_set}
-use borrow.Author.Rules.{rules}
 use Rattle.search.proofs.candidates.mark_owner.Goals as goal
 
 pub returns-then-k-eq0 : goal.returns-then-k-eq0

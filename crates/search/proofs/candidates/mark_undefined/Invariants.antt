@@ -1,9 +1,7 @@
 use Prim.Native.Nat.{◌≤◌}
-use native.Mathlib.Omega.{arith}
-use mathlib.Core.Path.{sym, ◌∙◌}
 use lib.ListN.{length}
 use Rattle.state.specs.Layout.{decode}
-use Rattle.search.proofs.CandidateLaws.{MarkedFrom, from_start, from_defined, from_marked, from_end}
+use Rattle.search.proofs.CandidateLaws.{MarkedFrom}
 use Rattle.search.proofs.candidates.mark_undefined.Given as goal
 
 abbrev pub invariant-loop-j : goal.invariant-loop-j

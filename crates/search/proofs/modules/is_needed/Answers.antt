@@ -1,10 +1,8 @@
 use native.Mathlib.Omega.{arith}
-use mathlib.Core.Path.{◌≡◌, refl, sym, ◌∙◌}
-use lib.ListN.{length}
-use Prim.Native.Nat.{◌-◌, ◌≤◌}
+use mathlib.Core.Path.{refl, sym, ◌∙◌}
 use Rattle.state.specs.Layout.{decode}
 use Rattle.tables.specs.Heads.{parts_from}
-use Rattle.search.proofs.ModuleLaws.{needed_from, needed_is, needed_turn, needed_done}
+use Rattle.search.proofs.ModuleLaws.{needed_is, needed_turn, needed_done}
 use Rattle.search.proofs.modules.is_needed.Goals as goal
 
 pub loop-i-init : goal.loop-i-init

@@ -1,10 +1,9 @@
-use native.Mathlib.Omega.{arith}
-use mathlib.Core.Path.{◌≡◌, refl, sym, ◌∙◌}
+use mathlib.Core.Path.{◌≡◌}
 use lib.ListN.{length}
 use Prim.Native.Nat.{◌-◌, ◌≤◌}
 use Rattle.state.specs.Layout.{decode}
 use Rattle.tables.specs.Heads.{parts_from}
-use Rattle.search.proofs.ModuleLaws.{needed_from, needed_is, needed_turn, needed_done}
+use Rattle.search.proofs.ModuleLaws.{needed_from}
 use Rattle.search.proofs.modules.is_needed.Given as goal
 
 abbrev pub invariant-loop-i : goal.invariant-loop-i

@@ -1,6 +1,4 @@
-use borrow.Author.Tests.{not-true, not-false}
 use mathlib.Core.Path.{sym, ◌∙◌}
-use borrow.Author.Rules.{rules}
 use Rattle.search.proofs.modules.is_needed_entry.Goals as goal
 
 pub returns-then-not-is_entry : goal.returns-then-not-is_entry

@@ -1,17 +1,8 @@
-use Prim.Native.Nat.{◌-◌, ◌≤◌}
 use native.Mathlib.Omega.{arith}
-use mathlib.Core.Path.{◌≡◌, refl, sym, ◌∙◌}
-use lib.ListN.{length, length-set}
+use mathlib.Core.Path.{refl, sym, ◌∙◌}
+use lib.ListN.{length-set}
 use borrow.Author.Rules.{rules}
-use Rattle.rules.specs.Search.{round}
-use Rattle.rules.specs.Load.{Walk, takes, place}
-use Rattle.tables.specs.Tables.{modules_in}
-use Rattle.state.specs.Good.{Good}
-use Rattle.order.specs.Order.{Ordered}
-use Rattle.placing.specs.Walks.{Agrees}
-use Rattle.search.specs.Searching.{set_of, Swept}
-use Rattle.search.specs.Flags.{Candidates}
-use Rattle.search.proofs.SweepLaws.{from, swept_start, swept_next, swept_idle, swept_done}
+use Rattle.search.proofs.SweepLaws.{swept_start, swept_next, swept_idle, swept_done}
 use Rattle.search.proofs.rounds.one_round.Goals as goal
 
 pub loop-i-init : goal.loop-i-init

@@ -1,8 +1,6 @@
 use Prim.Native.Nat.{◌-◌, ◌≤◌}
-use native.Mathlib.Omega.{arith}
-use mathlib.Core.Path.{◌≡◌, refl, sym, ◌∙◌}
-use lib.ListN.{length, length-set}
-use borrow.Author.Rules.{rules}
+use mathlib.Core.Path.{◌≡◌}
+use lib.ListN.{length}
 use Rattle.rules.specs.Search.{round}
 use Rattle.rules.specs.Load.{Walk, takes, place}
 use Rattle.tables.specs.Tables.{modules_in}
@@ -11,7 +9,7 @@ use Rattle.order.specs.Order.{Ordered}
 use Rattle.placing.specs.Walks.{Agrees}
 use Rattle.search.specs.Searching.{set_of, Swept}
 use Rattle.search.specs.Flags.{Candidates}
-use Rattle.search.proofs.SweepLaws.{from, swept_start, swept_next, swept_idle, swept_done}
+use Rattle.search.proofs.SweepLaws.{from}
 use Rattle.search.proofs.rounds.one_round.Given as goal
 
 abbrev pub invariant-loop-i : goal.invariant-loop-i

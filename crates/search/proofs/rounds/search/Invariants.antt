@@ -1,18 +1,14 @@
 use Prim.Native.Nat.{◌+◌, ◌-◌, ◌≤◌, min}
-use native.Mathlib.Omega.{arith}
-use mathlib.Core.Path.{◌≡◌, refl, sym}
+use mathlib.Core.Path.{◌≡◌}
 use lib.ListN.{length}
-use borrow.Author.Rules.{rules}
 use Rattle.rules.specs.Load.{Walk, searched}
 use Rattle.rules.specs.Search.{count}
-use Rattle.rules.proofs.SearchLaws.{count_most}
 use Rattle.tables.specs.Tables.{modules_in}
 use Rattle.state.specs.Good.{Good}
 use Rattle.order.specs.Order.{Ordered}
 use Rattle.placing.specs.Walks.{Agrees}
 use Rattle.search.specs.Searching.{set_of, Seeking}
 use Rattle.search.specs.Flags.{Candidates}
-use Rattle.search.proofs.SeekLaws.{length_modules, round_counts, seek_start, seek_next, seek_rounds, seek_agrees}
 use Rattle.search.proofs.rounds.search.Given as goal
 
 abbrev pub invariant-loop-took : goal.invariant-loop-took

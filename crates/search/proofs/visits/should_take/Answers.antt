@@ -2,7 +2,6 @@ use borrow.Author.Tests.{eq-eqb, ne_eqb}
 use Rattle.state.specs.Layout.{decode}
 use Rattle.search.specs.Searching.{should_take}
 use Rattle.search.proofs.VisitLaws.{needed_row}
-use borrow.Author.Rules.{rules}
 use Rattle.search.proofs.visits.should_take.Goals as goal
 
 pub returns-then-flag : goal.returns-then-flag
