@@ -4,7 +4,6 @@ use Rattle.state.specs.Layout.{decode, mark_of}
 use Rattle.reading.proofs.ItemLaws.{tables_hold}
 use Rattle.reading.proofs.SoundTables.{items_in_sound}
 use Rattle.loading.proofs.LoadingLaws.{file_stopped, file_walked}
-use borrow.Author.Rules.{rules}
 use Rattle.loading.proofs.load_file.Goals as goal
 
 pub walk_file-requires : goal.walk_file-requires

@@ -5,7 +5,6 @@ use Rattle.state.specs.Layout.{decode}
 use Rattle.soundness.proofs.RefusalLaws.{refused}
 use Rattle.state.proofs.PromiseLaws.{called_stopped}
 use Rattle.loading.proofs.LoadingLaws.{load_shut, load_long, load_done}
-use borrow.Author.Rules.{rules}
 use Rattle.loading.proofs.load_tested.Goals as goal
 
 pub returns-then-k-ne-DONE : goal.returns-then-k-ne-DONE

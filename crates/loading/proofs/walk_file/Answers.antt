@@ -1,11 +1,9 @@
 use native.Mathlib.Omega.{arith}
 use mathlib.Core.Path.{sym, subst, ◌∙◌}
-use Rattle.rules.specs.State.{marked, broken}
 use Rattle.tables.specs.Tables.{items_in}
-use Rattle.state.specs.Layout.{decode, mark_of}
-use Rattle.state.specs.Good.{Good, Holds}
+use Rattle.state.specs.Layout.{mark_of}
+use Rattle.state.specs.Good.{Good}
 use Rattle.loading.proofs.LoadingLaws.{walk_accepted, walk_refused}
-use borrow.Author.Rules.{rules}
 use Rattle.loading.proofs.walk_file.Goals as goal
 
 pub returns-then-far-eq-DONE : goal.returns-then-far-eq-DONE
