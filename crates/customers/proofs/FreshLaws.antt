@@ -4,7 +4,7 @@ use mathlib.Core.Bool.{Bool, true, false, cond}
 use native.Mathlib.Omega.{arith}
 use mathlib.Core.List.{List, [], ◌∷◌}
 use mathlib.Core.Logic.{◌≢◌}
-use mathlib.Core.Path.{◌≡◌, refl, sym, ap, ap₂, subst, ◌∙◌}
+use mathlib.Core.Path.{◌≡◌, refl, sym, ap, subst, ◌∙◌}
 use lib.ListN.{length, replicate}
 use lib.Dec.{eqb}
 use borrow.Author.Tests.{le-ltb}
@@ -20,7 +20,7 @@ use Rattle.rules.specs.declared.answer.MemoryAnswer.{MemoryAnswer}
 use Rattle.rules.specs.declared.answer.SymbolAnswer.{SymbolAnswer}
 use Rattle.rules.specs.declared.answer.UndefinedAnswer.{UndefinedAnswer}
 use Rattle.rules.proofs.SoundCalls.{fresh_is_sound}
-use Rattle.state.specs.Layout.{size, encode, lent, cells_after}
+use Rattle.state.specs.Layout.{size, lent, cells_after}
 use Rattle.state.specs.Promise.{Called, LoadCalled, Ended}
 use Rattle.state.specs.Sequence.{stop, step, Alike, none, same, loads}
 use Rattle.state.proofs.LentLaws.{lent_wrong, lent_encode}

@@ -8,7 +8,6 @@ use Rattle.rules.specs.Text as Text
 use Rattle.rules.specs.Text.{is_name, pack_name}
 use Rattle.rules.specs.State as State
 use Rattle.rules.specs.State.{State, state, fresh, no_words, position_of, undefined_only, highest_from, highest_where, highest, sound}
-use Rattle.rules.specs.Placing as Placing
 use Rattle.rules.specs.Placing.{mention}
 use Rattle.rules.specs.Calls.{Lent, holding, Outcome, stopped, done, with_symbols, load, reset, force, base, symbols, undefined, undefined_at}
 use Rattle.rules.specs.History.{forcing, basing, work_fits, left_over, state_after, called}

@@ -3,7 +3,7 @@ use Prim.Native.Nat.{ℕ, ◌≤◌}
 use native.Mathlib.Omega.{arith}
 use mathlib.Core.Bool.{true}
 use mathlib.Core.List.{List, [], ◌∷◌, ◌++◌, append-nil}
-use mathlib.Core.Path.{◌≡◌, refl, sym, ap, subst, ◌∙◌}
+use mathlib.Core.Path.{◌≡◌, refl, ap, subst, ◌∙◌}
 use lib.ListN.{length}
 use borrow.Author.Tests.{le-ltb}
 use Rattle.rules.specs.Limits.{longest_piece}
@@ -19,7 +19,7 @@ use Rattle.state.specs.Layout.{zeros, lent}
 use Rattle.state.specs.Promise.{LoadCalled}
 use Rattle.feed.specs.Layout.{feed_size, encode_feed, lent_feed, feed_cells_after}
 use Rattle.feed.specs.Promise.{FeedCalled, Closed}
-use Rattle.feed.specs.Sequence.{Fed, stop, step}
+use Rattle.feed.specs.Sequence.{stop, step}
 use Rattle.feed.proofs.Claims.{zero_sound, left_sound, as_one_load, feed_zero, advice_told}
 use Rattle.rules.proofs.FeedLaws.{no_fault, told_is}
 use Rattle.rules.specs.declared.reading.Reading.{Reading}

@@ -1,34 +1,32 @@
 -- What the calls on feed memory come to, by what they find there.
-use Prim.Native.Nat.{ℕ, ◌+◌, ◌-◌, ◌*◌, ◌/◌, ◌≤◌, ◌<◌}
+use Prim.Native.Nat.{ℕ, ◌+◌, ◌-◌, ◌≤◌, ◌<◌}
 use native.Mathlib.Omega.{arith}
-use mathlib.Core.Bool.{Bool, true, false, cond}
-use mathlib.Core.List.{List, [], ◌∷◌, ◌++◌, append-nil}
+use mathlib.Core.Bool.{Bool, true}
+use mathlib.Core.List.{List, [], ◌++◌, append-nil}
 use mathlib.Core.Logic.{◌≢◌}
 use mathlib.Core.Path.{◌≡◌, refl, sym, ap, ap₂, subst, ◌∙◌}
 use lib.ListN.{length, get_or, set, take, drop, replicate, length-append, drop_of_length-le}
 use lib.Seq.{take-take, take-length, take-append-add, length-take-le}
-use lib.Dec.{eqb, leb, ltb}
+use lib.Dec.{leb}
 use borrow.Author.Tests.{eq-eqb, ne_eqb, lt-ltb, le-ltb, le-leb, lt-leb}
-use Rattle.rules.specs.Limits.{longest_file, longest_piece, work_size}
+use Rattle.rules.specs.Limits.{longest_file, work_size}
 use Rattle.rules.specs.Text.{all, lines_of}
 use Rattle.rules.specs.Reading.{unread, if_complete, read_lines}
-use Rattle.rules.specs.Calls.{LentOf, wrong_length, damaged, holding, LeftOf, as_before, now, Lent, call_answer, load_answer, load_stopped, load, work_after}
-use Rattle.rules.specs.Feed.{Feed, shut, fed, too_many, kept, is_byte, sound_feed, whole_lines, fault_so_far, advice, FeedOutcome, feed_outcome, feed_stopped, feed_done, open_feed, feed_answer, piece_stopped, advised, take_piece, feed_piece, drop_feed, close_outcome, close_stopped, close_feed}
-use Rattle.rules.specs.History.{work_fits}
+use Rattle.rules.specs.Calls.{LentOf, wrong_length, damaged, holding, as_before, now, Lent, load_answer, load, work_after}
+use Rattle.rules.specs.Feed.{Feed, shut, fed, too_many, is_byte, sound_feed, whole_lines, fault_so_far, advice, FeedOutcome, feed_outcome, feed_stopped, feed_done, open_feed, feed_answer, piece_stopped, advised, take_piece, feed_piece, drop_feed, close_outcome, close_stopped, close_feed}
 use Rattle.rules.specs.declared.answer.LoadAnswer.{LoadAnswer}
-use Rattle.rules.specs.declared.answer.FeedAnswer.{FeedAnswer}
 use Rattle.rules.specs.declared.reading.Reading.{Reading}
 use Rattle.rules.specs.declared.reading.Reading.TheVariants.{Complete, Stopped}
 use Rattle.rules.proofs.WholeLaws.{whole_none, whole_some}
-use Rattle.state.specs.Layout.{zeros, lent, cells_after}
-use Rattle.state.specs.Promise.{Called, LoadCalled}
+use Rattle.state.specs.Layout.{zeros, cells_after}
+use Rattle.state.specs.Promise.{LoadCalled}
 use Rattle.soundness.proofs.RefusalLaws.{refused_by_lem}
 use Rattle.feed.specs.Layout.{feed_size, cells_with, encode_feed, bytes_in, decode_feed, lent_feed, feed_cells_after}
 use Rattle.feed.specs.Held.{file_room, unpacked, Sound, FeedRefusal}
 use Rattle.feed.specs.Promise.{FeedCalled, Closed}
 use Rattle.rules.proofs.FeedLaws.{kept_few, kept_long}
 use Rattle.feed.proofs.FeedLaws.{set_mark_lem, set_open, set_many, fed_small, bytes_put, bytes_before, bytes_long, fed_cells, with_long}
-use Rattle.feed.proofs.StoreLaws.{unpacked_bytes, unpacked_all}
+use Rattle.feed.proofs.StoreLaws.{unpacked_bytes}
 use Rattle.advising.specs.Whole.{LinesEnd, early_fault}
 
 -- ---- an answer, and what is left

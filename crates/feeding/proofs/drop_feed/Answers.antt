@@ -3,7 +3,6 @@
 use native.Mathlib.Omega.{arith}
 use mathlib.Core.Path.{◌∙◌}
 use Rattle.feeding.proofs.FeedingLaws.{stopped, left, drop_refused, drop_none, drop_done, cleared}
-use borrow.Author.Rules.{rules}
 use Rattle.feeding.proofs.drop_feed.Goals as goal
 
 pub returns-then-k-ne-DONE : goal.returns-then-k-ne-DONE

@@ -2,7 +2,6 @@
 -- Assumes nothing.
 use native.Mathlib.Omega.{arith}
 use Rattle.feeding.proofs.FeedingLaws.{stopped, left, open_refused, open_second, open_done, opened}
-use borrow.Author.Rules.{rules}
 use Rattle.feeding.proofs.open.Goals as goal
 
 pub returns-then-k-ne-DONE : goal.returns-then-k-ne-DONE

@@ -1,5 +1,4 @@
 use Rattle.customers.proofs.FreshLaws.{linked}
-use borrow.Author.Rules.{rules}
 use Rattle.customers.proofs.fresh.link.Goals as goal
 
 pub returns : goal.returns

@@ -1,5 +1,4 @@
 use Rattle.customers.proofs.FreshLaws.{two_links}
-use borrow.Author.Rules.{rules}
 use Rattle.customers.proofs.fresh.link_two.Goals as goal
 
 pub returns : goal.returns

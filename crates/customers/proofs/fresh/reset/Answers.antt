@@ -1,5 +1,4 @@
 use Rattle.customers.proofs.FreshLaws.{reset_kept}
-use borrow.Author.Rules.{rules}
 use Rattle.customers.proofs.fresh.reset.Goals as goal
 
 pub returns : goal.returns

@@ -1,5 +1,4 @@
 use Rattle.customers.proofs.FreshLaws.{nothing_listed}
-use borrow.Author.Rules.{rules}
 use Rattle.customers.proofs.fresh.reset_then_list.Goals as goal
 
 pub returns : goal.returns

@@ -1,5 +1,4 @@
 use Rattle.customers.proofs.StepLaws.{force_same}
-use borrow.Author.Rules.{rules}
 use Rattle.customers.proofs.high.force_between.Goals as goal
 
 pub returns : goal.returns

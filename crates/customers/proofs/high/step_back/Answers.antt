@@ -1,5 +1,4 @@
 use Rattle.customers.proofs.StepLaws.{stepped_back}
-use borrow.Author.Rules.{rules}
 use Rattle.customers.proofs.high.step_back.Goals as goal
 
 pub returns : goal.returns

@@ -1,5 +1,4 @@
 use Rattle.customers.proofs.ImageLaws.{end_kept}
-use borrow.Author.Rules.{rules}
 use Rattle.customers.proofs.images.end.Goals as goal
 
 pub returns : goal.returns

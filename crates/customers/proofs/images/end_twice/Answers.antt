@@ -1,5 +1,4 @@
 use Rattle.customers.proofs.ImageLaws.{same_ends}
-use borrow.Author.Rules.{rules}
 use Rattle.customers.proofs.images.end_twice.Goals as goal
 
 pub returns : goal.returns

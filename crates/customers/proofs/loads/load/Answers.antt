@@ -1,5 +1,4 @@
 use Rattle.customers.proofs.LoadLaws.{load_kept}
-use borrow.Author.Rules.{rules}
 use Rattle.customers.proofs.loads.load.Goals as goal
 
 pub returns : goal.returns

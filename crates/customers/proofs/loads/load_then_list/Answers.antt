@@ -1,5 +1,4 @@
 use Rattle.customers.proofs.LoadLaws.{listed}
-use borrow.Author.Rules.{rules}
 use Rattle.customers.proofs.loads.load_then_list.Goals as goal
 
 pub returns : goal.returns

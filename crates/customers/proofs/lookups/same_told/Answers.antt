@@ -1,4 +1,3 @@
-use borrow.Author.Rules.{rules}
 use borrow.Author.Tests.{eq-eqb}
 use mathlib.Core.Path.{ap}
 use Rattle.rules.specs.declared.lookup.Lookup.{Lookup}

@@ -1,5 +1,4 @@
 use Rattle.customers.proofs.NameLaws.{moved_as_told}
-use borrow.Author.Rules.{rules}
 use Rattle.customers.proofs.names.base_then_load.Goals as goal
 
 pub returns : goal.returns

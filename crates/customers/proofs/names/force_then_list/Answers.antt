@@ -1,5 +1,4 @@
 use Rattle.customers.proofs.NameLaws.{forced_as_told}
-use borrow.Author.Rules.{rules}
 use Rattle.customers.proofs.names.force_then_list.Goals as goal
 
 pub returns : goal.returns

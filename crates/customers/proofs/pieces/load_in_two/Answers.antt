@@ -1,6 +1,5 @@
 use Rattle.feed.proofs.FeedLaws.{piece_small}
 use Rattle.customers.proofs.PieceLaws.{in_two}
-use borrow.Author.Rules.{rules}
 use Rattle.customers.proofs.pieces.load_in_two.Goals as goal
 
 pub returns : goal.returns

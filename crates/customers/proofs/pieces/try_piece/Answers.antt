@@ -1,6 +1,5 @@
 use Rattle.feed.proofs.FeedLaws.{piece_small}
 use Rattle.customers.proofs.PieceLaws.{tried}
-use borrow.Author.Rules.{rules}
 use Rattle.customers.proofs.pieces.try_piece.Goals as goal
 
 pub returns : goal.returns

@@ -1,5 +1,4 @@
 use Rattle.customers.proofs.RefusedLaws.{refused_breaks, force_shut}
-use borrow.Author.Rules.{rules}
 use Rattle.customers.proofs.refused.force_after.Goals as goal
 
 pub returns : goal.returns

@@ -1,6 +1,5 @@
 use Rattle.customers.proofs.RefusedLaws.{fits, load_shut_out}
 use Rattle.customers.proofs.ImageLaws.{end_is_done}
-use borrow.Author.Rules.{rules}
 use Rattle.customers.proofs.refused.load_after_end.Goals as goal
 
 pub returns : goal.returns

@@ -1,5 +1,4 @@
 use Rattle.customers.proofs.RefusedLaws.{refused_breaks, refused_fits, again_fits, load_shut}
-use borrow.Author.Rules.{rules}
 use Rattle.customers.proofs.refused.load_again.Goals as goal
 
 pub returns : goal.returns

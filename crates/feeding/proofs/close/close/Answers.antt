@@ -8,7 +8,6 @@ use lib.Seq.{length-take-le}
 use Rattle.state.specs.Layout.{zeros}
 use Rattle.feed.proofs.StoreLaws.{unpacked_all, unpacked_length}
 use Rattle.feeding.proofs.FeedingLaws.{close_refused, close_none, close_done, close_stopped_lem, close_loaded, cleared, total_most}
-use borrow.Author.Rules.{rules}
 use Rattle.feeding.proofs.close.close.Goals as goal
 
 pub returns-then-k-ne-DONE : goal.returns-then-k-ne-DONE

@@ -1,6 +1,5 @@
 use mathlib.Core.Path.{refl, ◌∙◌}
 use Rattle.feeding.proofs.FeedingLaws.{work_cleared, work_kept}
-use borrow.Author.Rules.{rules}
 use Rattle.feeding.proofs.close.refuse.Goals as goal
 
 pub returns-then-work-eq-PART_ROOM : goal.returns-then-work-eq-PART_ROOM

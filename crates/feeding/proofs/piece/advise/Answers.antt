@@ -9,7 +9,6 @@ use Rattle.rules.specs.Feed.{advised}
 use Rattle.state.specs.Layout.{zeros}
 use Rattle.advising.specs.Whole.{early_fault}
 use Rattle.feeding.proofs.FeedingLaws.{no_advice, new_advice}
-use borrow.Author.Rules.{rules}
 use Rattle.feeding.proofs.piece.advise.Goals as goal
 
 pub returns-then-whole-eq0 : goal.returns-then-whole-eq0

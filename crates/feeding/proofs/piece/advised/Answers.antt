@@ -1,6 +1,5 @@
 use mathlib.Core.Path.{sym, ap, ◌∙◌}
 use Rattle.rules.specs.Feed.{advised}
-use borrow.Author.Rules.{rules}
 use Rattle.feeding.proofs.piece.advised.Goals as goal
 
 pub returns-in-Complete : goal.returns-in-Complete

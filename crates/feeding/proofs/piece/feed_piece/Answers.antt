@@ -2,7 +2,6 @@
 -- Assumes nothing.
 use native.Mathlib.Omega.{arith}
 use Rattle.feeding.proofs.FeedingLaws.{stopped, same_call, piece_refused, piece_long, piece_none, piece_taken}
-use borrow.Author.Rules.{rules}
 use Rattle.feeding.proofs.piece.feed_piece.Goals as goal
 
 pub returns-then-k-ne-DONE : goal.returns-then-k-ne-DONE

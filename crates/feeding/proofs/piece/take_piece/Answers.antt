@@ -1,13 +1,11 @@
 -- `feeding::take_piece` meets its contract.
 -- Assumes nothing.
 use Prim.Native.Nat.{ℕ}
-use native.Mathlib.Omega.{arith}
 use mathlib.Core.List.{List}
 use mathlib.Core.Path.{refl, ap, ◌∙◌}
 use Rattle.rules.specs.Feed.{advice, advised}
 use Rattle.feed.proofs.FeedLaws.{piece_small}
 use Rattle.feeding.proofs.FeedingLaws.{left, some_mark, cleared, too_many_lem, many_taken, few_taken, room_cells, marked, marked_long, bytes_same, bytes_more}
-use borrow.Author.Rules.{rules}
 use Rattle.feeding.proofs.piece.take_piece.Goals as goal
 
 pub returns-then-total-gt-LONGEST_FILE : goal.returns-then-total-gt-LONGEST_FILE
