@@ -56,7 +56,7 @@ fn read_open<S: Read>(source: &mut S, file: &mut [u8]) -> FileRead {
     r
 }
 
-// Opens a file for reading. A path is text here: one whose bytes are none names no file.
+// Opens a file for reading. The paths of std are UTF-8 text, so a path of other bytes names no file here.
 pub fn open_file<R: Files>(rt: &R, path: &[u8]) -> Option<R::File> {
     let name = str::from_utf8(path).ok()?;
     fs::open(rt, name).ok()
