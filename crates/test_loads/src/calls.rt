@@ -1,5 +1,5 @@
 // RESET, FORCE, BASE and END: the answer, and what became of the state.
-use crate::cells::tell_state;
+use crate::leaving::tell_state;
 use crate::print::{answer, number, say};
 use linker::{STATE_CELLS, lnk100_base, lnk100_end, lnk100_force, lnk100_reset};
 use std::io::Print;

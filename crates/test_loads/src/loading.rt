@@ -1,5 +1,5 @@
 // LOAD, with memory of any length.
-use crate::cells::{MORE_CELLS, are_zero, tell_state, tell_work};
+use crate::leaving::{MORE_CELLS, are_zero, tell_state, tell_work};
 use crate::print::{answer, number, say};
 use linker::{STATE_CELLS, WORK_CELLS, lnk100_load};
 use rules::answer::LoadAnswer;

@@ -17,7 +17,7 @@
 #![tactic(auto)]
 
 mod calls;
-mod cells;
+mod leaving;
 mod listing;
 mod loading;
 mod obey;
