@@ -19,7 +19,7 @@
 mod calls;
 mod leaving;
 mod listing;
-mod loading;
+mod loads;
 mod obey;
 mod print;
 

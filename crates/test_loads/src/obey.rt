@@ -1,7 +1,7 @@
 // A line of a run: which call it is, and on what.
 use crate::calls::{base, end, force, force_names, reset, start};
 use crate::listing::{list, list_memory};
-use crate::loading::{load, load_blank, load_into};
+use crate::loads::{load, load_blank, load_into};
 use crate::print::say;
 use linker::{STATE_CELLS, WORK_CELLS};
 use std::io::Print;
