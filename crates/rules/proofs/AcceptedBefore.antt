@@ -1,5 +1,5 @@
 -- Document 02, 4/14: "States and files accepted before stay accepted with the same answers." Before, names went by document 01's
--- alphabet, `isLetterOrDigit`. Every rule that asks for a name is one definition over an alphabet, and is used here at both. On state
+-- alphabet, `is_letter_or_digit`. Every rule that asks for a name is one definition over an alphabet, and is used here at both. On state
 -- memory, and of calls in a row, the same is said in crate state, AcceptedBefore.
 use Prim.Native.Nat.{ℕ}
 use native.Mathlib.Omega.{arith}

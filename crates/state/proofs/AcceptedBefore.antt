@@ -1,5 +1,5 @@
 -- Document 02, 4/14: "States and files accepted before stay accepted with the same answers.", on state memory: each call, and calls in
--- a row. Before, names went by document 01's alphabet, `isLetterOrDigit`; rules' AcceptedBefore has the claim on states and files.
+-- a row. Before, names went by document 01's alphabet, `is_letter_or_digit`; rules' AcceptedBefore has the claim on states and files.
 use Prim.Native.Nat.{ℕ}
 use native.Mathlib.Omega.{arith}
 use mathlib.Core.Bool.{Bool, true, false, cond}
