@@ -13,7 +13,14 @@ import sys
 
 NAME = r'[^\s(){}.;,@"«»`]+'
 DECLARED = re.compile(r"(?m)^[ \t]*(?:(?:abbrev|unfoldable|pub|data|record|module|ruleset)\s+)*((?:" + NAME + r"[ \t]+)*?" + NAME + r")(?:\s+[({][^:\n]*:[^)}\n]*[)}])*\s*:(?=\s)")
-MENDED = {("reading", "part_cells_lem"): "part_cells", ("reading", "row_cells_lem"): "row_cells"}
+MENDED = {
+    ("reading", "part_cells_lem"): "part_cells",
+    ("reading", "row_cells_lem"): "row_cells",
+    ("rules/specs/Demand.antt", "goes_on_lem"): "goes_on",
+    # the unfinished work had a field of that name, so the script, run over it too, gave the lemma the longer one
+    ("rules/proofs/ImageLaws.antt", "fourth_quarter"): "fourth_quarter_lem",
+}
+GONE = {"record_tags", "other_tags", "not_entry", "not_external"}
 AS_LANDED = {("rules/specs/Demand.antt", "goes_on"), ("rules/proofs/Demand3.antt", "goes_on")}
 
 
@@ -37,8 +44,8 @@ for f in sorted(glob.glob(spelled + "/crates/*/specs/**/*.antt", recursive=True)
         continue
     crate, file = place.split("/", 1)
     for x, y in zip(a, b):
-        y = MENDED.get((crate, y), y)
+        y = MENDED.get((crate, y), MENDED.get((place, y), y))
         row = (crate, file, x, y)
-        if x != y and (place, x) not in AS_LANDED and row not in seen:
+        if x != y and y not in GONE and (place, x) not in AS_LANDED and row not in seen:
             seen.add(row)
             print("\t".join(row))
