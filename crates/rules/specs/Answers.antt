@@ -1,8 +1,10 @@
 -- Document 01, "What the calls return": the answers, each with its number and its name; "new numbers [..] join document 01's list" (02,
 -- 3/14).
-use Rattle.std.specs.Prelude.{ℕ, Bool, cond, ◌||◌, List, [], ◌∷◌, eqb}
+use Rattle.std.specs.Prelude.{ℕ, Bool, cond, ◌||◌, List, [], ◌∷◌, eqb, Result, Ok, Err}
 use Prim.Native.String.{String}
 use Rattle.rules.specs.Text.{bytes, between}
+use Rattle.rules.specs.declared.answer.Reason.{Reason}
+use Rattle.rules.specs.declared.answer.Reason.TheVariants.{Buffer, Damaged, Reset, Frozen, TooLong, Line, Place, List as TheList, Room, Overlap, Arg, Range, Duplicate, Table, Name, Out, Fields, Number, Symbol, Marker, «Type», Feed}
 
 -- the numbers: every definition names them, and so does the code (src/answer.rt)
 abbrev pub DONE : ℕ
@@ -75,6 +77,36 @@ TYPE = 21
 -- 02, 5/14: "a longer piece, a second open, or a piece, close or drop with none open, by 23"
 abbrev pub FEED : ℕ
 FEED = 23
+
+-- the same as what the code refuses by
+abbrev pub reason_number : Reason → ℕ
+reason_number Buffer = BUFFER
+reason_number Damaged = DAMAGED
+reason_number Reset = RESET
+reason_number Frozen = FROZEN
+reason_number TooLong = TOO_LONG
+reason_number Line = LINE
+reason_number Place = PLACE
+reason_number TheList = LIST
+reason_number Room = ROOM
+reason_number Overlap = OVERLAP
+reason_number Arg = ARG
+reason_number Range = RANGE
+reason_number Duplicate = DUPLICATE
+reason_number Table = TABLE
+reason_number Name = NAME
+reason_number Out = OUT
+reason_number Fields = FIELDS
+reason_number Number = NUMBER
+reason_number Symbol = SYMBOL
+reason_number Marker = MARKER
+reason_number «Type» = TYPE
+reason_number Feed = FEED
+
+-- what a call answers: DONE, or why it refuses
+abbrev pub answer_number : Result (Unit {0}) Reason → ℕ
+answer_number (Ok _) = DONE
+answer_number (Err r) = reason_number r
 
 -- a row of the table
 pub record Answer : Type 0 where

@@ -1,4 +1,6 @@
 // What the calls answer.
+ghost use Rattle.std.specs.Prelude.{◌≡◌};
+ghost use Rattle.rules.specs.Answers.{reason_number};
 
 // The numbers of documents 01 and 02. specs/Answers.antt has them with their names.
 pub const DONE: u64 = 0;
@@ -46,6 +48,41 @@ pub const MARKER: u64 = 20;
 pub const TYPE: u64 = 21;
 
 pub const FEED: u64 = 23;
+
+// Why a call refuses, by the number that it then answers.
+#[derive(Clone, Copy, PartialEq, Eq)]
+pub enum Reason {
+    Buffer = 1,
+    Damaged = 2,
+    Reset = 3,
+    Frozen = 4,
+    TooLong = 5,
+    Line = 6,
+    Place = 7,
+    List = 8,
+    Room = 9,
+    Overlap = 10,
+    Arg = 11,
+    Range = 12,
+    Duplicate = 13,
+    Table = 14,
+    Name = 15,
+    Out = 16,
+    Fields = 17,
+    Number = 18,
+    Symbol = 19,
+    Marker = 20,
+    Type = 21,
+    Feed = 23,
+}
+
+impl Reason {
+    pub fn number(self) -> u64
+        ensures { result ≡ reason_number self }
+    {
+        self as u64
+    }
+}
 
 // Why a walk goes no further: an answer's number and a line of the file; both are 0 where it goes on.
 #[derive(Clone, Copy)]
