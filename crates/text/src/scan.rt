@@ -33,10 +33,3 @@ pub fn find_byte(file: &[u8], at: usize, stop: usize, byte: u8) -> usize
 {
     at + front(&file[at..stop], |b| b != byte)
 }
-
-// A byte of a table, as a position.
-pub fn position(byte: u8) -> usize
-    ensures { result ≡ byte }
-{
-    byte as usize
-}
