@@ -9,7 +9,7 @@ use lib.Seq.{drop-cons, get_or-set_same, get_or-set_other}
 use native.Mathlib.Numerals.{add-one}
 use Rattle.std.proofs.lemmas.List.{get_or_default}
 use Rattle.rules.specs.Text.{Field, fields_from, fields_of}
-use Rattle.rules.specs.Line.{value, wrong, read_field, Fitted, fits, misfit, in_front, fit, fit_over, fault}
+use Rattle.rules.specs.Line.{value, wrong, read_field, Fitted, fits, misfit, in_front, fit, fit_over, fault, text_at}
 use Rattle.rules.specs.declared.line.Fault.{Fault}
 use Rattle.rules.specs.declared.line.FaultKind.{FaultKind}
 use Rattle.rules.specs.declared.line.FaultKind.TheVariants.{FieldCount}
@@ -19,10 +19,10 @@ use Rattle.text.specs.Scan.{part, InFile}
 use Rattle.text.specs.FieldBounds.{field_start, field_stop}
 use Rattle.text.proofs.FieldLaws.{FieldFound, field, field_found, no_field, start_least, start_most}
 use Rattle.text.proofs.ScanLaws.{part_all}
-use Rattle.line.specs.Fields.{value_as, FieldLeft, FieldAs, FieldWrong, missing, differs}
-use Rattle.line.specs.Fitting.{nothing, values_of, line_fields}
-use Rattle.line.proofs.FieldLaws.{line_from}
-use Rattle.line.specs.declared.fields.FieldValue.{FieldValue}
+use Rattle.text.specs.Digits.{field_text}
+use Rattle.line.specs.Fields.{value_as, next_text, FieldLeft, FieldAs, FieldWrong, missing, differs}
+use Rattle.line.specs.Fitting.{values_of, line_fields}
+use Rattle.line.proofs.FieldLaws.{line_from, later, this}
 
 -- ---- values in front of those that are fitted
 
@@ -151,51 +151,66 @@ module _ {ks : List Kind} {l done : List ℕ} {i : ℕ} where
     pub line_end : field_start i (length l) l ≡ length l → fits done ≡ fit (length l + 1) ks (fields_of l)
     line_end n = line_told ks l (fitting_end (length l) (sym n) f (omega arith))
 
--- ---- the loop's values
+-- ---- the loop's numbers
 
-module _ (ks : List Kind) (vs : List FieldValue) (k : ℕ) (v : FieldValue) where
+module _ (ks : List Kind) (fs : List Field) (ns : List ℕ) (k n : ℕ) where
   -- what stands at k does not count among the first values
-  values_kept : (m : ℕ) → m ≤ k → values_of m ks (set vs k v) ≡ values_of m ks vs
+  values_kept : (m : ℕ) → m ≤ k → values_of m ks fs (set ns k n) ≡ values_of m ks fs ns
   unfolding values_of
   values_kept zero h = refl
-  values_kept (suc m) h = rw (values_kept m (omega arith), get_or-set_other vs k m v nothing (λ e. omega arith))
+  values_kept (suc m) h = rw (values_kept m (omega arith), get_or-set_other ns k m n 0 (λ e. omega arith))
 
-  values_more : k < length vs → values_of (suc k) ks (set vs k v) ≡ values_of k ks vs ++ (value_as (get_or ks k Anything) v ∷ [])
+  values_more : k < length ns → values_of (suc k) ks fs (set ns k n) ≡ values_of k ks fs ns ++ (value_as (get_or ks k Anything) (text_at fs k) n ∷ [])
   unfolding values_of
-  values_more h = rw (values_kept k (omega arith), get_or-set_same vs k v nothing h)
+  values_more h = rw (values_kept k (omega arith), get_or-set_same ns k n 0 h)
 
 -- k fields are read, and the other kinds are left
-pub record Kept (ks : List Kind) (l : List ℕ) (vs : List FieldValue) (i k : ℕ) : Type 0 where
+pub record Kept (ks : List Kind) (l ns : List ℕ) (i k : ℕ) : Type 0 where
   pub within : i ≤ length l
-  pub size : length vs ≡ 8
-  pub fitting : Fitting ks 0 (length l) l (values_of k ks vs) (drop k ks) i
+  pub size : length ns ≡ 8
+  pub fitting : Fitting ks 0 (length l) l (values_of k ks (fields_of l) ns) (drop k ks) i
+  pub column : ℕ
+  pub texts : (m : ℕ) → text_at (fields_of l) (k + m) ≡ text_at (fields_from column (part i (length l) l)) m
 
-pub kept_start : (ks : List Kind) (l : List ℕ) (vs : List FieldValue) → length vs ≡ 8 → Kept ks l vs 0 0
-unfolding values_of
-kept_start ks l vs n = record { within = omega arith; size = n; fitting = line_start ks l }
+pub kept_start : (ks : List Kind) (l ns : List ℕ) → length ns ≡ 8 → Kept ks l ns 0 0
+unfolding values_of fields_of
+kept_start ks l ns n =
+    record {
+      within = omega arith;
+      size = n;
+      fitting = line_start ks l;
+      column = 1;
+      texts =
+          λ m. let z : 0 + m ≡ m = omega arith in
+          rw (z, part_all 0 l) refl;
+    }
 
-module _ {ks : List Kind} {l : List ℕ} {vs : List FieldValue} {i k : ℕ} (q : Kept ks l vs i k) where
+module _ {ks : List Kind} {l ns : List ℕ} {i k : ℕ} (q : Kept ks l ns i k) where
   module _ (d : Kind) (h : k < length ks) where
-    next : Fitting ks 0 (length l) l (values_of k ks vs) (get_or ks k d ∷ drop (suc k) ks) i
+    next : Fitting ks 0 (length l) l (values_of k ks (fields_of l) ns) (get_or ks k d ∷ drop (suc k) ks) i
     next = rw (drop-cons ks k d h) at q.fitting
 
     pub kept_wrong : {f : Fault} → FieldWrong (get_or ks k d) i l f → misfit f ≡ fit (length l + 1) ks (fields_of l)
     kept_wrong w = line_wrong next w
 
-    pub kept_step : (v : FieldValue) {e : ℕ} → k < 8 → FieldAs (get_or ks k d) i l (value_as (get_or ks k d) v) e → Kept ks l (set vs k v) e (k + 1)
-    kept_step v g a =
+    pub kept_step : (n : ℕ) {e : ℕ} → k < 8 → FieldAs (get_or ks k d) i l (value_as (get_or ks k d) (next_text i l) n) e → Kept ks l (set ns k n) e (k + 1)
+    kept_step n {e} g a =
+        let z : k + 0 ≡ k = omega arith in
+        let t : text_at (fields_of l) k ≡ next_text i l = rw z at (q.texts 0) ∙ this q.within a q.column ∙ ap (λ (s : ℕ). field_text s (length l) l) a.starts.found in
         record {
           within = a.most;
-          size = length-set vs k v ∙ q.size;
-          fitting = rw (add-one, values_more ks vs k v (omega (arith, q.size)), get_or_default ks k Anything d h) (line_more next a);
+          size = length-set ns k n ∙ q.size;
+          fitting = rw (add-one, values_more ks (fields_of l) ns k n (omega (arith, q.size)), get_or_default ks k Anything d h, t) (line_more next a);
+          column = q.column + (e - i);
+          texts = λ m. let y : k + 1 + m ≡ k + suc m = omega arith in rw y (q.texts (suc m) ∙ later q.within a q.column m);
         }
 
   module _ (h : length ks ≤ k) where
-    last : Fitting ks 0 (length l) l (values_of k ks vs) [] i
+    last : Fitting ks 0 (length l) l (values_of k ks (fields_of l) ns) [] i
     last = rw (drop_of_length-le ks h) at q.fitting
 
     pub kept_many : {f : Fault} → FieldLeft i l f → misfit f ≡ fit (length l + 1) ks (fields_of l)
     kept_many n = line_many last n
 
-    pub kept_end : k ≤ length ks → field_start i (length l) l ≡ length l → fits (values_of (length ks) ks vs) ≡ fit (length l + 1) ks (fields_of l)
+    pub kept_end : k ≤ length ks → field_start i (length l) l ≡ length l → fits (values_of (length ks) ks (fields_of l) ns) ≡ fit (length l + 1) ks (fields_of l)
     kept_end g n = let m : k ≡ length ks = omega arith in rw m at (line_end last n)

@@ -1,13 +1,13 @@
 -- Entries: fields that were read one after the other are the line's, and fit its shape, which its third field tells.
 -- Assumes nothing.
-use Prim.Native.Nat.{ℕ, suc, ◌+◌, ◌-◌, ◌≤◌}
+use Prim.Native.Nat.{ℕ, ◌+◌, ◌≤◌}
 use native.Mathlib.Omega.{arith}
 use mathlib.Core.Bool.{Bool, true, false, true≢false, cond}
 use mathlib.Core.List.{List, [], ◌∷◌}
 use mathlib.Core.Option.{Option, none, some}
 use mathlib.Core.Path.{◌≡◌, refl, sym, ap, ◌∙◌}
 use lib.ListN.{length}
-use Rattle.rules.specs.Text.{Field, fields_from, fields_of, number_of, between}
+use Rattle.rules.specs.Text.{fields_from, fields_of, number_of, between}
 use Rattle.rules.specs.Line.{number, value, wrong, held, in_bounds, read_field, read_field_over, misfit, fit, said, read_as, read_as_over, record_shape, absolute_entry, relocated_entry, entry, is_one, text_at, entry_shape}
 use Rattle.rules.specs.declared.line.Fault.{Fault}
 use Rattle.rules.specs.declared.line.FaultKind.{FaultKind}
@@ -15,31 +15,19 @@ use Rattle.rules.specs.declared.line.FaultKind.TheVariants.{BadNumber, BadType}
 use Rattle.rules.specs.declared.line.Kind.{Kind}
 use Rattle.rules.specs.declared.line.Kind.TheVariants.{Number, Name}
 use Rattle.rules.specs.declared.line.LineAnswer.TheVariants.{Bad, Entered}
-use Rattle.text.specs.Scan.{part}
 use Rattle.text.specs.FieldBounds.{field_start}
 use Rattle.text.specs.Digits.{field_text}
 use Rattle.text.proofs.ScanLaws.{part_all}
 use Rattle.rules.proofs.TestLaws.{between_high}
 use Rattle.line.specs.Fields.{FieldLeft, FieldAs, FieldWrong}
-use Rattle.line.proofs.FieldLaws.{found}
+use Rattle.line.proofs.FieldLaws.{later, this}
 use Rattle.line.proofs.FitLaws.{Fitting, line_start, line_more, line_wrong, line_many, line_end}
 
 -- what is declined promises nothing
 pub declined : {A : Type 0} {b : Bool} → b ≡ false → b ≡ true → A
 declined e f = absurd (true≢false (sym f ∙ e))
 
--- ---- the third field
-
-module _ {k : Kind} {i : ℕ} {l : List ℕ} {v e : ℕ} (h : i ≤ length l) (a : FieldAs k i l v e) where
-  -- the texts of the fields behind it
-  later : (c m : ℕ) → text_at (fields_from c (part i (length l) l)) (suc m) ≡ text_at (fields_from (c + (e - i)) (part e (length l) l)) m
-  unfolding text_at
-  later c m =
-      rw (← a.ends) at (ap (λ (fs : List Field). text_at fs (suc m)) ((found h a.starts).anywhere c))
-
-  this : (c : ℕ) → text_at (fields_from c (part i (length l) l)) 0 ≡ field_text a.start (length l) l
-  unfolding text_at
-  this c = ap (λ (fs : List Field). text_at fs 0) ((found h a.starts).anywhere c)
+-- ---- the type
 
 -- a number that was taken is the field's
 number_is : (low high : ℕ) (j : FaultKind) (t : List ℕ) {v : ℕ} → value v ≡ read_field (Number low high j) t → number_of t ≡ some v

@@ -2,7 +2,7 @@
 use Rattle.std.specs.Prelude.{ℕ, zero, suc, ◌+◌, ◌-◌, List, [], ◌∷◌, ◌++◌, ◌≡◌, length, get_or, Result, Ok, Err}
 use Rattle.std.proofs.Math.Option.{Option, none, some}
 use Rattle.rules.specs.Text.{Field, fields_of}
-use Rattle.rules.specs.Line.{Fitted, fits, misfit, fit, Shape, read_as}
+use Rattle.rules.specs.Line.{Fitted, fits, misfit, fit, Shape, read_as, nth, text_at}
 use Rattle.rules.specs.declared.line.Fault.{Fault}
 use Rattle.rules.specs.declared.line.Kind.{Kind}
 use Rattle.rules.specs.declared.line.Kind.TheVariants.{Name, Anything}
@@ -11,20 +11,16 @@ use Rattle.rules.specs.declared.line.LineAnswer.{LineAnswer}
 use Rattle.rules.specs.declared.line.LineAnswer.TheVariants.{Bad, Head}
 use Rattle.text.specs.Scan.{part}
 use Rattle.line.specs.Fields.{value_as}
-use Rattle.line.specs.declared.fields.FieldValue.{FieldValue}
 
-abbrev pub nothing : FieldValue
-nothing = record { number = 0; name = 0 }
-
--- the values of the first n fields of a line
-unfoldable pub values_of : ℕ → List Kind → List FieldValue → List ℕ
-values_of zero ks vs = []
-values_of (suc k) ks vs = values_of k ks vs ++ (value_as (get_or ks k Anything) (get_or vs k nothing) ∷ [])
+-- the values of the first k fields of a line, with these numbers
+unfoldable pub values_of : ℕ → List Kind → List Field → List ℕ → List ℕ
+values_of zero ks fs ns = []
+values_of (suc k) ks fs ns = values_of k ks fs ns ++ (value_as (get_or ks k Anything) (text_at fs k) (nth ns k) ∷ [])
 
 -- the answer of `fit`
-abbrev pub as_fitted : List Kind → Result (List FieldValue) Fault → Fitted
-as_fitted ks (Ok vs) = fits (values_of (length ks) ks vs)
-as_fitted ks (Err f) = misfit f
+abbrev pub as_fitted : List Kind → List Field → Result (List ℕ) Fault → Fitted
+as_fitted ks fs (Ok ns) = fits (values_of (length ks) ks fs ns)
+as_fitted ks fs (Err f) = misfit f
 
 -- an answer, in which the rules count a fault
 abbrev pub answer_in : Result LineAnswer Fault → LineAnswer

@@ -4,7 +4,7 @@ ghost use Rattle.rules.specs.declared.line.FaultKind.TheVariants.{BadNumber};
 ghost use Rattle.rules.specs.declared.line.Kind.TheVariants.{Number as NumberKind, Name as NameKind};
 ghost use Rattle.rules.specs.Line.{read_field, in_bounds, held};
 ghost use Rattle.text.specs.Values.{value_in};
-ghost use Rattle.line.specs.Fields.{held_in, as_held, value_as, Starts, Ends, Reads};
+ghost use Rattle.line.specs.Fields.{held_in, as_held, value_as, next_text, Starts, Ends, Reads};
 
 use rules::limits::{LARGEST_NUMBER, MOST_SUB_RECORDS};
 use rules::line::{Fault, FaultKind, Kind};
@@ -31,15 +31,6 @@ pub const SUB_RECORDS: Kind = Kind::Number {
     outside: FaultKind::BadNumber,
 };
 
-// What a field holds: a number or a name. What it doesn't hold is 0.
-#[derive(Clone, Copy)]
-pub struct FieldValue {
-    pub number: u16,
-    pub name: u64,
-}
-
-pub const NOTHING: FieldValue = FieldValue { number: 0, name: 0 };
-
 // A field that is of its kind, as it was read, and where it ends.
 #[derive(Clone, Copy)]
 pub struct FieldFrom<T> {
@@ -59,27 +50,16 @@ fn within(number: Option<u16>, low: u16, high: u16, outside: FaultKind) -> Resul
     }
 }
 
-// What a field holds that has to be of this kind.
-#[tactic(auto, unfolding(rules::specs::Line::read_field_over, rules::specs::Line::held))]
-fn read_field(field: &[u8], kind: Kind) -> Result<FieldValue, FaultKind>
-    ensures { as_held kind result ≡ read_field kind field.now }
+// The number in a field that has to be of this kind, 0 where the kind is no number.
+#[tactic(auto, unfolding(rules::specs::Line::read_field_over, rules::specs::Line::held, crate::specs::Fields::name_value))]
+fn read_field(field: &[u8], kind: Kind) -> Result<u16, FaultKind>
+    ensures { as_held kind field.now result ≡ read_field kind field.now }
 {
     match kind {
-        Kind::Number { low, high, outside } => {
-            let number = within(read_number(field), low, high, outside)?;
-            Ok(FieldValue { number, name: 0 })
-        }
-        Kind::Name => match read_name(field) {
-            Some(name) => Ok(FieldValue { number: 0, name }),
-            None => Err(FaultKind::BadName),
-        },
-        Kind::Marker(code) => {
-            if !is_marker(field, code) {
-                return Err(FaultKind::BadMarker);
-            }
-            Ok(NOTHING)
-        }
-        Kind::Anything => Ok(NOTHING),
+        Kind::Number { low, high, outside } => within(read_number(field), low, high, outside),
+        Kind::Name if read_name(field).is_none() => Err(FaultKind::BadName),
+        Kind::Marker(code) if !is_marker(field, code) => Err(FaultKind::BadMarker),
+        _ => Ok(0),
     }
 }
 
@@ -115,9 +95,9 @@ pub fn no_more(line: &[u8], i: usize) -> Result<(), Fault>
 
 // The next field, of any kind.
 #[tactic(auto, using(text::proofs::FieldLaws::start_again))]
-pub fn field_at(line: &[u8], i: usize, kind: Kind) -> Result<FieldFrom<FieldValue>, Fault>
+pub fn field_at(line: &[u8], i: usize, kind: Kind) -> Result<FieldFrom<u16>, Fault>
     requires { i ≤ length line.now }
-    ensures { Reads (value_as kind) kind i line.now result }
+    ensures { Reads (value_as kind (next_text i line.now)) kind i line.now result }
 {
     let start = start_of(line, i)?;
     let field = field_from(line, start, line.len());

@@ -23,10 +23,10 @@ fn block_line(line: &[u8], code: u16, unknown: Fault) -> Result<Header, Fault>
 {
     match code {
         0 => {
-            let v = fit(line, &[CODE, NUMBER, NUMBER, Kind::Marker(0)])?;
+            let n = fit(line, &[CODE, NUMBER, NUMBER, Kind::Marker(0)])?;
             Ok(Header::CodeBlock {
-                count: v[1].number,
-                offset: v[2].number,
+                count: n[1],
+                offset: n[2],
             })
         }
         1 => {
@@ -37,8 +37,8 @@ fn block_line(line: &[u8], code: u16, unknown: Fault) -> Result<Header, Fault>
             fit(line, &[CODE, Kind::Marker(3)])?;
             Ok(Header::TitleBlock)
         }
-        4 => Ok(Header::EntryBlock(fit(line, &[CODE, NUMBER, Kind::Marker(4)])?[1].number)),
-        5 => Ok(Header::ExternalBlock(fit(line, &[CODE, NUMBER, Kind::Marker(5)])?[1].number)),
+        4 => Ok(Header::EntryBlock(fit(line, &[CODE, NUMBER, Kind::Marker(4)])?[1])),
+        5 => Ok(Header::ExternalBlock(fit(line, &[CODE, NUMBER, Kind::Marker(5)])?[1])),
         6 => {
             fit(line, &[CODE, Kind::Marker(6)])?;
             Ok(Header::LibraryStart)
@@ -48,12 +48,12 @@ fn block_line(line: &[u8], code: u16, unknown: Fault) -> Result<Header, Fault>
             Ok(Header::LibraryEnd)
         }
         8 => {
-            let v = fit(line, &[CODE, NUMBER, Kind::Name, NUMBER, Kind::Marker(8)])?;
-            Ok(Header::DataBlock(v[1].number))
+            let n = fit(line, &[CODE, NUMBER, Kind::Name, NUMBER, Kind::Marker(8)])?;
+            Ok(Header::DataBlock(n[1]))
         }
-        9 => Ok(Header::InitBlock(fit(line, &[CODE, NUMBER, Kind::Marker(9)])?[1].number)),
-        10 => Ok(Header::ParameterBlock(fit(line, &[CODE, NUMBER, Kind::Marker(10)])?[1].number)),
-        11 => Ok(Header::EntryBlock(fit(line, &[CODE, NUMBER, Kind::Marker(11)])?[1].number)),
+        9 => Ok(Header::InitBlock(fit(line, &[CODE, NUMBER, Kind::Marker(9)])?[1])),
+        10 => Ok(Header::ParameterBlock(fit(line, &[CODE, NUMBER, Kind::Marker(10)])?[1])),
+        11 => Ok(Header::EntryBlock(fit(line, &[CODE, NUMBER, Kind::Marker(11)])?[1])),
         _ => Err(unknown),
     }
 }

@@ -45,8 +45,8 @@ fn shape_line(line: &[u8], start: usize, expected: Expected) -> Result<LineAnswe
             Ok(LineAnswer::Ignored)
         }
         Expected::ParameterRecord => {
-            let v = fit(line, &[NUMBER, NUMBER, SUB_RECORDS])?;
-            Ok(LineAnswer::Parameter(v[2].number))
+            let n = fit(line, &[NUMBER, NUMBER, SUB_RECORDS])?;
+            Ok(LineAnswer::Parameter(n[2]))
         }
         Expected::SubRecord => {
             fit(line, &[NUMBER, NUMBER])?;

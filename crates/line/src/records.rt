@@ -44,7 +44,7 @@ fn relocation_of(kind: u16, arg: u16) -> Relocation
 fn linked_line(line: &[u8]) -> Result<LineAnswer, Fault>
     ensures { answer_in result ≡ read_as (record_shape linked_code) (length line.now + 1) (fields_of line.now) }
 {
-    let v = fit(
+    let n = fit(
         line,
         &[
             Kind::Anything,
@@ -58,8 +58,8 @@ fn linked_line(line: &[u8]) -> Result<LineAnswer, Fault>
         ],
     )?;
     Ok(LineAnswer::Code(CodeWord {
-        text: word(v[1].number, v[2].number, v[3].number, v[4].number),
-        relocation: relocation_of(v[6].number, v[7].number),
+        text: word(n[1], n[2], n[3], n[4]),
+        relocation: relocation_of(n[6], n[7]),
     }))
 }
 
