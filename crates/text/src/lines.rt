@@ -1,6 +1,6 @@
 // The lines of a file.
 ghost use Rattle.std.specs.Prelude.{◌≡◌, ◌<◌, ◌≤◌, length};
-ghost use Rattle.text.specs.Scan.{InFile, Found};
+ghost use Rattle.text.specs.Scan.{Found};
 ghost use Rattle.text.specs.LineEnds.{legal_end, line_stop, NextLine};
 
 use crate::scan::{CR, LF, SPACE, TILDE, find_byte, front};
@@ -15,12 +15,12 @@ pub struct LineSpan {
     pub front: usize,
 }
 
-// The first position from `at` on whose byte is illegal, or `end`.
-fn legal_end(file: &[u8], at: usize, end: usize) -> usize
-    requires { InFile at end file.now }
-    ensures { Found at end (legal_end at end file.now) result }
+// The first position from `at` on whose byte is illegal, or the file's end.
+fn legal_end(file: &[u8], at: usize) -> usize
+    requires { at ≤ length file.now }
+    ensures { Found at (length file.now) (legal_end at (length file.now) file.now) result }
 {
-    at + front(&file[at..end], |b| SPACE <= b && b <= TILDE)
+    at + front(&file[at..], |b| SPACE <= b && b <= TILDE)
 }
 
 // Where the line that starts at `at` stops, whose LF, or else the file's end, is at `lf`. A CR is dropped only just before an LF.
@@ -39,13 +39,12 @@ pub fn next_line(file: &[u8], at: usize) -> LineSpan
     requires { at < length file.now }
     ensures { NextLine at file.now result }
 {
-    let end = file.len();
-    let illegal = legal_end(file, at, end);
-    let lf = find_byte(file, illegal, end, LF);
+    let illegal = legal_end(file, at);
+    let lf = find_byte(file, illegal, LF);
     let stop = line_stop(file, at, lf);
     LineSpan {
         stop,
-        next: end.min(lf + 1),
+        next: file.len().min(lf + 1),
         front: LONGEST_LINE.min(illegal.min(stop) - at),
     }
 }

@@ -1,7 +1,6 @@
 // Numbers: one to six octal digits, at most 177777.
-ghost use Rattle.std.specs.Prelude.{◌≡◌, ◌+◌, ◌≤◌, min};
+ghost use Rattle.std.specs.Prelude.{◌≡◌, ◌≤◌, length};
 ghost use Rattle.rules.specs.Text.{number_of};
-ghost use Rattle.text.specs.Scan.{InFile};
 ghost use Rattle.text.specs.Values.{value_in, small};
 ghost use Rattle.text.specs.Digits.{DigitsRead, FieldRead};
 
@@ -16,14 +15,14 @@ pub struct DigitRun {
     pub end: usize,
 }
 
-pub fn digits(file: &[u8], at: usize, stop: usize) -> DigitRun
-    requires { InFile at stop file.now }
-    ensures { DigitsRead at stop file.now result }
+pub fn digits(line: &[u8], at: usize) -> DigitRun
+    requires { at ≤ length line.now }
+    ensures { DigitsRead at (length line.now) line.now result }
 {
-    let most = at + MOST_DIGITS.min(stop - at);
+    let most = at + MOST_DIGITS.min(line.len() - at);
     let mut value: u32 = 0;
     for i in at..most {
-        let digit = file[i];
+        let digit = line[i];
         if digit < b'0' || b'7' < digit {
             return DigitRun { value, end: i };
         }
@@ -42,7 +41,7 @@ pub fn read_number(field: &[u8]) -> Option<u16>
     ensures { value_in result ≡ number_of field.now }
 {
     let n = field.len();
-    let run = digits(field, 0, n);
+    let run = digits(field, 0);
     if n == 0 || run.end != n {
         return None;
     }
@@ -57,11 +56,11 @@ pub struct NumberField {
 }
 
 // The field is looked for first.
-fn any_field(file: &[u8], at: usize, stop: usize) -> NumberField
-    requires { InFile at stop file.now }
-    ensures { FieldRead at stop file.now result }
+fn any_field(line: &[u8], at: usize) -> NumberField
+    requires { at ≤ length line.now }
+    ensures { FieldRead at (length line.now) line.now result }
 {
-    let field = next_field(file, at, stop);
+    let field = next_field(line, at);
     NumberField {
         number: read_number(field),
         end: at + field.len(),
@@ -69,14 +68,14 @@ fn any_field(file: &[u8], at: usize, stop: usize) -> NumberField
 }
 
 // The next field of the line as a number. Where it starts at `at`, is all digits and no more than six, one pass reads it.
-pub fn field_number(file: &[u8], at: usize, stop: usize) -> NumberField
-    requires { InFile at stop file.now }
-    ensures { FieldRead at stop file.now result }
+pub fn field_number(line: &[u8], at: usize) -> NumberField
+    requires { at ≤ length line.now }
+    ensures { FieldRead at (length line.now) line.now result }
 {
-    let run = digits(file, at, stop);
+    let run = digits(line, at);
     let end = run.end;
-    if end == at || end < stop && file[end] != SPACE {
-        return any_field(file, at, stop);
+    if end == at || end < line.len() && line[end] != SPACE {
+        return any_field(line, at);
     }
     NumberField {
         number: as_number(run.value),

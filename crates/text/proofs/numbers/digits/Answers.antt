@@ -3,12 +3,12 @@
 use Rattle.std.proofs.Common.{◌≡◌, ◌+◌, arith}
 use mathlib.Core.Logic.{⊎_elim}
 use borrow.Author.Rules.{rules}
-use Rattle.text.proofs.ScanLaws.{between_low, between_high}
+use Rattle.text.proofs.ScanLaws.{in_line, between_low, between_high}
 use Rattle.text.proofs.NumberLaws.{run_start, run_room, run_step, run_end}
 use Rattle.text.proofs.numbers.digits.Goals as goal
 
 pub loop-i-init : goal.loop-i-init
-loop-i-init c = run_start _ _ _ c.requires
+loop-i-init c = run_start _ _ _ (in_line _ _ c.requires)
 
 pub returns-then-digit-lt48 : goal.returns-then-digit-lt48
 returns-then-digit-lt48 c =
