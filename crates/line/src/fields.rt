@@ -1,12 +1,12 @@
 // A field against the kind that it has to be.
-ghost use Rattle.std.specs.Prelude.{◌≡◌, ◌≤◌, length};
+ghost use Rattle.std.specs.Prelude.{◌≡◌, ◌+◌, ◌≤◌, ◌<◌, length};
 ghost use Rattle.rules.specs.declared.line.FaultKind.TheVariants.{BadNumber};
 ghost use Rattle.rules.specs.declared.line.Kind.TheVariants.{Number as NumberKind, Name as NameKind};
-ghost use Rattle.rules.specs.Line.{read_field, in_bounds, held};
+ghost use Rattle.rules.specs.Line.{fault, read_field, in_bounds, held};
 ghost use Rattle.text.specs.Values.{value_in};
 ghost use Rattle.line.specs.Fields.{held_in, as_held, value_as, next_text, Starts, Ends, Reads};
 
-use rules::limits::{LARGEST_NUMBER, MOST_SUB_RECORDS};
+use rules::limits::LARGEST_NUMBER;
 use rules::line::{Fault, FaultKind, Kind};
 use text::fields::{field_from, field_start};
 use text::markers::is_marker;
@@ -24,18 +24,22 @@ pub const NUMBER: Kind = Kind::Number {
     outside: FaultKind::BadNumber,
 };
 
-// How many sub-records follow a parameter record.
-pub const SUB_RECORDS: Kind = Kind::Number {
-    low: 0,
-    high: MOST_SUB_RECORDS,
-    outside: FaultKind::BadNumber,
-};
-
 // A field that is of its kind, as it was read, and where it ends.
 #[derive(Clone, Copy)]
 pub struct FieldFrom<T> {
     pub value: T,
     pub end: usize,
+}
+
+// A fault that is told at the byte at i, the first being in column 1.
+pub fn fault_at(kind: FaultKind, i: usize) -> Fault
+    requires { i < usize.MAX }
+    ensures { result ≡ fault kind (i + 1) }
+{
+    Fault {
+        kind,
+        column: i + 1,
+    }
 }
 
 // A number, held to its bounds.
@@ -70,10 +74,7 @@ fn start_of(line: &[u8], i: usize) -> Result<usize, Fault>
 {
     let start = field_start(line, i, line.len());
     if start == line.len() {
-        return Err(Fault {
-            kind: FaultKind::FieldCount,
-            column: line.len() + 1,
-        });
+        return Err(fault_at(FaultKind::FieldCount, line.len()));
     }
     Ok(start)
 }
@@ -85,10 +86,7 @@ pub fn no_more(line: &[u8], i: usize) -> Result<(), Fault>
 {
     let start = field_start(line, i, line.len());
     if start < line.len() {
-        return Err(Fault {
-            kind: FaultKind::FieldCount,
-            column: start + 1,
-        });
+        return Err(fault_at(FaultKind::FieldCount, start));
     }
     Ok(())
 }
@@ -106,10 +104,7 @@ pub fn field_at(line: &[u8], i: usize, kind: Kind) -> Result<FieldFrom<u16>, Fau
             value,
             end: start + field.len(),
         }),
-        Err(kind) => Err(Fault {
-            kind,
-            column: start + 1,
-        }),
+        Err(wrong) => Err(fault_at(wrong, start)),
     }
 }
 
@@ -126,10 +121,7 @@ pub fn name_at(line: &[u8], i: usize) -> Result<FieldFrom<u64>, Fault>
             value,
             end: start + field.len(),
         }),
-        None => Err(Fault {
-            kind: FaultKind::BadName,
-            column: start + 1,
-        }),
+        None => Err(fault_at(FaultKind::BadName, start)),
     }
 }
 
@@ -152,10 +144,7 @@ pub fn bounded_at(
             value,
             end: field.end,
         }),
-        Err(kind) => Err(Fault {
-            kind,
-            column: start + 1,
-        }),
+        Err(kind) => Err(fault_at(kind, start)),
     }
 }
 

@@ -7,7 +7,7 @@ ghost use Rattle.rules.specs.declared.line.Expected.TheVariants.{AnyHeader};
 ghost use Rattle.line.specs.Fitting.{answer_in, header_in, shape_said};
 ghost use Rattle.line.specs.Fields.{StartsAt};
 
-use crate::fields::NUMBER;
+use crate::fields::{NUMBER, fault_at};
 use crate::fitting::fit;
 use rules::line::{Fault, FaultKind, Header, Kind, LineAnswer};
 use text::fields::next_field;
@@ -63,10 +63,7 @@ pub fn header_line(line: &[u8], start: usize) -> Result<LineAnswer, Fault>
     requires { StartsAt 0 line.now start }
     ensures { answer_in result ≡ shape_said (shape_for AnyHeader (fields_of line.now)) (fault BadMarker (start + 1)) (length line.now + 1) (fields_of line.now) }
 {
-    let unknown = Fault {
-        kind: FaultKind::BadMarker,
-        column: start + 1,
-    };
+    let unknown = fault_at(FaultKind::BadMarker, start);
     let Some(code) = read_number(next_field(line, start, line.len())) else {
         return Err(unknown);
     };

@@ -9,11 +9,12 @@ ghost use Rattle.rules.specs.Line.{fault, shape_for, line_of, test_bytes, line_a
 ghost use Rattle.line.specs.Fields.{StartsAt};
 ghost use Rattle.line.specs.Fitting.{answer_in, shape_said};
 
-use crate::fields::{NUMBER, SUB_RECORDS};
+use crate::fields::{NUMBER, fault_at};
 use crate::fitting::fit;
 use crate::headers::header_line;
 use crate::named::{entry_line, name_alone};
 use crate::records::code_line;
+use rules::limits::MOST_SUB_RECORDS;
 use rules::line::{Expected, Fault, FaultKind, Kind, LineAnswer};
 use text::fields::field_start;
 
@@ -22,6 +23,13 @@ mod fitting;
 mod headers;
 mod named;
 mod records;
+
+// How many sub-records follow a parameter record.
+const SUB_RECORDS: Kind = Kind::Number {
+    low: 0,
+    high: MOST_SUB_RECORDS,
+    outside: FaultKind::BadNumber,
+};
 
 // What the line says, whose first field starts at `start`.
 #[tactic(auto, unfolding(rules::specs::Line::shape_for, rules::specs::Line::read_as_over, rules::specs::Line::record_shape, rules::specs::Line::said, crate::specs::Fitting::shape_said, crate::specs::Fitting::values_of))]
@@ -76,10 +84,7 @@ fn test_bytes(front: usize, size: usize, answer: LineAnswer) -> LineAnswer
     }
     match answer {
         LineAnswer::Bad(fault) if fault.column <= front => answer,
-        _ => LineAnswer::Bad(Fault {
-            kind: FaultKind::IllegalByte,
-            column: front + 1,
-        }),
+        _ => LineAnswer::Bad(fault_at(FaultKind::IllegalByte, front)),
     }
 }
 

@@ -9,14 +9,14 @@ use Rattle.line.proofs.headers.header_line.Goals as goal
 pub returns-in_default : goal.returns-in_default
 unfolding shape_for shape_said row_at header_shape_in
 returns-in_default c =
-    rw (first_is _ _ c.requires, ← c.next_field.ensures.bytes, ← c.read_number.ensures, c.in_default.is)
+    rw (← c.fault_at-unknown.ensures, first_is _ _ c.requires, ← c.next_field.ensures.bytes, ← c.read_number.ensures, c.in_default.is)
 
 pub returns-in_err-block_line : goal.returns-in_err-block_line
 unfolding shape_for row_at
 returns-in_err-block_line c =
-    rw (first_is _ _ c.requires, ← c.next_field.ensures.bytes, ← c.read_number.ensures, c.in-Some.is) (search (rules, c.in_err-block_line.ensures))
+    rw (← c.fault_at-unknown.ensures, first_is _ _ c.requires, ← c.next_field.ensures.bytes, ← c.read_number.ensures, c.in-Some.is) (search (rules, c.in_err-block_line.ensures))
 
 pub returns : goal.returns
 unfolding shape_for row_at
 returns c =
-    rw (first_is _ _ c.requires, ← c.next_field.ensures.bytes, ← c.read_number.ensures, c.in-Some.is) c.in_ok-block_line.ensures
+    rw (← c.fault_at-unknown.ensures, first_is _ _ c.requires, ← c.next_field.ensures.bytes, ← c.read_number.ensures, c.in-Some.is) c.in_ok-block_line.ensures
