@@ -7,7 +7,7 @@ use native.Mathlib.Omega.{arith}
 use mathlib.Core.Bool.{Bool, true, false, cond, ◌&&◌}
 use mathlib.Core.List.{List, [], ◌∷◌}
 use mathlib.Core.Path.{◌≡◌, refl, sym, ap, ap₂, ◌∙◌}
-use lib.ListN.{length, take, drop, get_or, length-take, length-drop, drop_of_length-le}
+use lib.ListN.{length, take, drop, get_or, length-take, length-drop}
 use lib.Seq.{drop-cons, take-length, take-take, drop-drop, take-nil, get_or-take, get_or-drop}
 use lib.Dec.{leb}
 use borrow.Author.Tests.{le-leb, lt-leb}
@@ -192,47 +192,11 @@ module _ (p : ℕ → Bool) where
 pub in_line : (at : ℕ) (l : List ℕ) → at ≤ length l → InFile at (length l) l
 in_line at l h = record { order = h; size = omega arith }
 
--- what the loop of a scan keeps at the position i that it has come to
-pub record Scanned (p : ℕ → Bool) (at e : ℕ) (l : List ℕ) (i : ℕ) : Type 0 where
-  pub from : at ≤ i
-  pub to : i ≤ e
-  pub size : e ≤ length l
-  pub same : past p i e l ≡ past p at e l
-
-pub scan_start : (p : ℕ → Bool) (at e : ℕ) (l : List ℕ) → at ≤ e → e ≤ length l → Scanned p at e l at
-scan_start p at e l h g = record { from = omega arith; to = h; size = g; same = refl }
-
-module _ {p : ℕ → Bool} {at e : ℕ} {l : List ℕ} {i : ℕ} (s : Scanned p at e l i) where
-  pub scan_step : i < e → p (get_or l i 0) ≡ true → Scanned p at e l (i + 1)
-  scan_step h b =
-      record {
-        from = omega arith;
-        to = omega arith;
-        size = s.size;
-        same = past_step p i e l h s.size b ∙ s.same;
-      }
-
-  pub scan_stop : i < e → p (get_or l i 0) ≡ false → Found at e (past p at e l) i
-  scan_stop h b = record { is = sym (past_stop p i e l h s.size b) ∙ s.same; least = s.from; most = s.to }
-
-  pub scan_end : e ≤ i → Found at e (past p at e l) i
-  scan_end h = record { is = sym (past_end p i e l h) ∙ s.same; least = s.from; most = s.to }
-
 -- ---- a test of all bytes
 
-module _ (p : ℕ → Bool) (i : ℕ) (l : List ℕ) where
-  pub all_end : length l ≤ i → all p (drop i l) ≡ true
-  unfolding all
-  all_end h = rw (drop_of_length-le l h)
-
-  module _ (h : i < length l) where
-    pub all_step : p (get_or l i 0) ≡ true → all p (drop (i + 1) l) ≡ all p (drop i l)
-    unfolding all
-    all_step b = rw (drop-cons l i 0, add-one, b)
-
-    pub all_stop : p (get_or l i 0) ≡ false → all p (drop i l) ≡ false
-    unfolding all
-    all_stop b = rw (drop-cons l i 0, b)
+pub all_stop : (p : ℕ → Bool) (i : ℕ) (l : List ℕ) → i < length l → p (get_or l i 0) ≡ false → all p (drop i l) ≡ false
+unfolding all
+all_stop p i l h b = rw (drop-cons l i 0, b)
 
 -- ---- tests on a byte
 

@@ -9,7 +9,7 @@ use mathlib.Core.Option.{some}
 use mathlib.Core.Path.{◌≡◌, refl, sym, ap, ◌∙◌}
 use lib.ListN.{length, get_or}
 use lib.Dec.{eqb, leb, ltb}
-use borrow.Author.Tests.{eq-eqb, ne_eqb, eqb-true, eqb-false, le-leb, leb-true, lt-ltb, le-ltb, ltb-true, ltb-false}
+use borrow.Author.Tests.{ne_eqb, eqb-true, eqb-false, le-leb, leb-true, lt-ltb, le-ltb, ltb-true, ltb-false}
 use Rattle.rules.proofs.TestLaws.{and_left, and_right}
 use Rattle.rules.specs.Text.{LF, CR, space, is_octal, legal_front}
 use Rattle.rules.specs.Line.{code_word, shape_for, line_of, line_answer}
@@ -77,7 +77,7 @@ space_legal b e = ap is_legal (eqb-true b space e)
 -- ---- what parts a quarter from what stands behind it
 
 module _ (k b : ℕ) where
-  pub parts_space : k < 3 → parts k b ≡ eqb b space
+  parts_space : k < 3 → parts k b ≡ eqb b space
   unfolding parts
   parts_space h = simp (lt-ltb k 3 h)
 
@@ -85,10 +85,7 @@ module _ (k b : ℕ) where
   unfolding parts
   parts_line h = simp (le-ltb k 3 h)
 
-  pub parts_LF : 3 ≤ k → b ≡ LF → parts k b ≡ eqb b LF
-  parts_LF h e = parts_line h ∙ rw (eq-eqb b LF e)
-
-  pub parts_CR : 3 ≤ k → (b ≡ LF → ⊥) → parts k b ≡ eqb b CR
+  parts_CR : 3 ≤ k → (b ≡ LF → ⊥) → parts k b ≡ eqb b CR
   parts_CR h n = parts_line h ∙ rw (ne_eqb b LF n)
 
   a_space : k < 3 → parts k b ≡ true → b ≡ space
