@@ -178,14 +178,19 @@ module _ (p : ℕ → Bool) where
   run_is (x ∷ xs) (suc n) h b s = run_yes p x xs (b 0 (omega arith)) ∙ ap suc (run_is xs n (omega arith) (λ k g. b (suc k) (omega arith)) (λ g. s (omega arith)))
 
   pub past_is :
-      {at e n : ℕ} {l : List ℕ} → InFile at e l → n ≤ length (part at e l) → ((k : ℕ) → k < n → p (get_or (part at e l) k 0) ≡ true)
-      → (n < length (part at e l) → p (get_or (part at e l) n 0) ≡ false) → Found at e (past p at e l) (at + n)
+      (at n : ℕ) (l : List ℕ) → (at ≤ n) × (n ≤ length l) → ((k : ℕ) → at ≤ k → k < n → p (get_or l k 0) ≡ true)
+      → (n < length l → p (get_or l n 0) ≡ false) → Found at (length l) (past p at (length l) l) n
   unfolding past
-  past_is {at} {e} {n} {l} i h b s =
+  past_is at n l h b s =
+      let e : at + (n - at) ≡ n = omega arith in
+      let w : run p (drop at l) ≡ n - at =
+      run_is (drop at l) (n - at) (omega (arith, length-drop at l))
+      (λ k g. ap p (get_or-drop at l k 0) ∙ b (at + k) (omega arith) (omega arith))
+      (λ g. ap p (get_or-drop at l (n - at) 0 ∙ ap (λ (j : ℕ). get_or l j 0) e) ∙ s (omega (arith, length-drop at l))) in
       record {
-        is = ap (λ (k : ℕ). at + k) (sym (run_is (part at e l) n h b s));
-        least = omega arith;
-        most = omega (arith, length_part at e l i.size, i.order);
+        is = omega (arith, ap (run p) (part_all at l), w);
+        least = h.0;
+        most = h.1;
       }
 
 -- a position in a line

@@ -3,14 +3,14 @@ ghost use Rattle.std.specs.Prelude.{◌≡◌, ◌≤◌, length};
 ghost use Rattle.text.specs.Scan.{Found};
 ghost use Rattle.text.specs.FieldBounds.{field_start, NextField};
 
-use crate::scan::{SPACE, find_byte, front};
+use crate::scan::{SPACE, find_byte, past};
 
 // Where the next field of the line starts: with the line's end where there is none.
 pub fn field_start(line: &[u8], at: usize) -> usize
     requires { at ≤ length line.now }
     ensures { Found at (length line.now) (field_start at (length line.now) line.now) result }
 {
-    at + front(&line[at..], |b| b == SPACE)
+    past(line, at, |b| b == SPACE)
 }
 
 // The next field of the line, as that part of it: empty where there is none.

@@ -3,7 +3,7 @@ ghost use Rattle.std.specs.Prelude.{◌≡◌, ◌<◌, ◌≤◌, length};
 ghost use Rattle.text.specs.Scan.{Found};
 ghost use Rattle.text.specs.LineEnds.{legal_end, line_stop, NextLine};
 
-use crate::scan::{CR, LF, SPACE, TILDE, find_byte, front};
+use crate::scan::{CR, LF, SPACE, TILDE, find_byte, past};
 use rules::limits::LONGEST_LINE;
 
 // Where a line stops, its end left out, and where the next one starts; and how many legal bytes stand at the line's front, at
@@ -20,7 +20,7 @@ fn legal_end(file: &[u8], at: usize) -> usize
     requires { at ≤ length file.now }
     ensures { Found at (length file.now) (legal_end at (length file.now) file.now) result }
 {
-    at + front(&file[at..], |b| SPACE <= b && b <= TILDE)
+    past(file, at, |b| SPACE <= b && b <= TILDE)
 }
 
 // Where the line that starts at `at` stops, whose LF, or else the file's end, is at `lf`. A CR is dropped only just before an LF.

@@ -19,7 +19,7 @@ pub fn digits(line: &[u8], at: usize) -> DigitRun
     requires { at ≤ length line.now }
     ensures { DigitsRead at (length line.now) line.now result }
 {
-    let most = at + MOST_DIGITS.min(line.len() - at);
+    let most = line.len().min(at + MOST_DIGITS);
     let mut value: u32 = 0;
     for i in at..most {
         let digit = line[i];

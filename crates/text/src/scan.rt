@@ -11,19 +11,20 @@ pub const SPACE: u8 = 32;
 // The last byte that a line may have.
 pub const TILDE: u8 = 126;
 
-// How many bytes at the front pass the test.
-pub fn front<F: Fn(u8) -> bool>(bytes: &[u8], passes: F) -> usize
-    requires { F.IsAlwaysCallable passes }
-    ensures within { result ≤ length bytes.now }
-    ensures before { (k : ℕ) → k < result → F.post passes (slice_index bytes.now k) true }
-    ensures stops { result < length bytes.now → F.post passes (slice_index bytes.now result) false }
+// The first position from `at` on whose byte fails the test, or the text's end.
+pub fn past<F: Fn(u8) -> bool>(text: &[u8], at: usize, passes: F) -> usize
+    requires in_text { at ≤ length text.now }
+    requires callable { F.IsAlwaysCallable passes }
+    ensures within { (at ≤ result) × (result ≤ length text.now) }
+    ensures before { (k : ℕ) → at ≤ k → k < result → F.post passes (slice_index text.now k) true }
+    ensures stops { result < length text.now → F.post passes (slice_index text.now result) false }
 {
-    for (i, byte) in bytes.iter().enumerate() {
-        if !passes(*byte) {
+    for i in at..text.len() {
+        if !passes(text[i]) {
             return i;
         }
     }
-    bytes.len()
+    text.len()
 }
 
 // The first position from `at` on with that byte, or the text's end.
@@ -31,5 +32,5 @@ pub fn find_byte(text: &[u8], at: usize, byte: u8) -> usize
     requires { at ≤ length text.now }
     ensures { Found at (length text.now) (past (is_not byte) at (length text.now) text.now) result }
 {
-    at + front(&text[at..], |b| b != byte)
+    past(text, at, |b| b != byte)
 }

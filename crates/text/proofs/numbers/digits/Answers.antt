@@ -1,6 +1,6 @@
 -- `text::numbers::digits` meets its contract: at each digit what is left decides. Six digits fit a u32.
 -- Assumes nothing.
-use Rattle.std.proofs.Common.{◌≡◌, ◌+◌, arith}
+use Rattle.std.proofs.Common.{◌≡◌, arith}
 use mathlib.Core.Logic.{⊎_elim}
 use borrow.Author.Rules.{rules}
 use Rattle.text.proofs.ScanLaws.{in_line, between_low, between_high}
@@ -28,5 +28,5 @@ loop-i-preserved c =
 
 pub returns : goal.returns
 returns c =
-    let last : c.loop-i.i ≡ c.args.at + c.min.result = omega arith in
-    rw (← last) (run_end c.loop-i.invariant (λ h g. absurd (omega (arith, c.min.ensures, c.loop-i-test.false))))
+    let last : c.loop-i.i ≡ c.min-most.result = omega arith in
+    rw (← last) (run_end c.loop-i.invariant (λ h g. absurd (omega (arith, c.min-most.ensures, c.loop-i-test.false))))
