@@ -146,7 +146,7 @@ module _ {ks : List Kind} {l done : List ℕ} {i : ℕ} where
     pub line_many : {g : Fault} → FieldLeft i l g → misfit g ≡ fit (length l + 1) ks (fields_of l)
     line_many n =
         ap misfit n.told
-        ∙ line_told ks l (let m : n.column - 0 ≡ n.column = omega arith in rw m at (fitting_many n.column n.starts.found f n.starts.inside))
+        ∙ line_told ks l (let m : n.start - 0 ≡ n.start = omega arith in rw m at (fitting_many n.start n.starts.found f n.starts.inside))
 
     pub line_end : field_start i (length l) l ≡ length l → fits done ≡ fit (length l + 1) ks (fields_of l)
     line_end n = line_told ks l (fitting_end (length l) (sym n) f (omega arith))

@@ -54,9 +54,9 @@ Starts i l (Err f) = NoField i l f
 
 -- none is wanted
 pub record FieldLeft (i : ℕ) (l : List ℕ) (f : Fault) : Type 0 where
-  pub column : ℕ
-  pub starts : StartsAt i l column
-  pub told : f ≡ fault FieldCount (column + 1)
+  pub start : ℕ
+  pub starts : StartsAt i l start
+  pub told : f ≡ fault FieldCount (start + 1)
 
 abbrev pub Ends : ℕ → List ℕ → Result Unit Fault → Type 0
 Ends i l (Ok u) = field_start i (length l) l ≡ length l

@@ -6,9 +6,8 @@ use Rattle.rules.specs.Line.{Fitted, fits, misfit, fit, Shape, read_as, nth, tex
 use Rattle.rules.specs.declared.line.Fault.{Fault}
 use Rattle.rules.specs.declared.line.Kind.{Kind}
 use Rattle.rules.specs.declared.line.Kind.TheVariants.{Name, Anything}
-use Rattle.rules.specs.declared.line.Header.{Header}
 use Rattle.rules.specs.declared.line.LineAnswer.{LineAnswer}
-use Rattle.rules.specs.declared.line.LineAnswer.TheVariants.{Bad, Head}
+use Rattle.rules.specs.declared.line.LineAnswer.TheVariants.{Bad}
 use Rattle.text.specs.Scan.{part}
 use Rattle.line.specs.Fields.{value_as}
 
@@ -22,15 +21,10 @@ abbrev pub as_fitted : List Kind → List Field → Result (List ℕ) Fault → 
 as_fitted ks fs (Ok ns) = fits (values_of (length ks) ks fs ns)
 as_fitted ks fs (Err f) = misfit f
 
--- an answer, in which the rules count a fault
-abbrev pub answer_in : Result LineAnswer Fault → LineAnswer
-answer_in (Ok a) = a
-answer_in (Err f) = Bad f
-
--- a header, as the line's answer
-abbrev pub header_in : Result Header Fault → LineAnswer
-header_in (Ok h) = Head h
-header_in (Err f) = Bad f
+-- what a line says, by the answer of a function that tells a fault apart: the rules count one among the answers
+abbrev pub said_as : {T : Type 0} → (T → LineAnswer) → Result T Fault → LineAnswer
+said_as says (Ok x) = says x
+said_as says (Err f) = Bad f
 
 -- what a line with a field says, read as one of a shape; no shape is a fault of its first field
 unfoldable pub shape_said : Option Shape → Fault → ℕ → List Field → LineAnswer

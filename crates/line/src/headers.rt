@@ -3,13 +3,14 @@ ghost use Rattle.std.specs.Prelude.{◌≡◌, ◌+◌, length};
 ghost use Rattle.rules.specs.Text.{fields_of};
 ghost use Rattle.rules.specs.Line.{fault, row_of, header_shape_in, shape_for};
 ghost use Rattle.rules.specs.declared.line.FaultKind.TheVariants.{BadMarker};
+ghost use Rattle.rules.specs.declared.line.LineAnswer.TheVariants.{Head};
 ghost use Rattle.rules.specs.declared.line.Expected.TheVariants.{AnyHeader};
-ghost use Rattle.line.specs.Fitting.{answer_in, header_in, shape_said};
+ghost use Rattle.line.specs.Fitting.{said_as, shape_said};
 ghost use Rattle.line.specs.Fields.{StartsAt};
 
 use crate::fields::{NUMBER, fault_at};
 use crate::fitting::fit;
-use rules::line::{Fault, FaultKind, Header, Kind, LineAnswer};
+use rules::line::{Fault, FaultKind, Header, Kind};
 use text::fields::next_field;
 use text::numbers::read_number;
 
@@ -19,7 +20,7 @@ const CODE: Kind = Kind::Anything;
 // The header of the block with this code. No block with it is a fault of the code.
 #[tactic(auto, unfolding(rules::specs::Line::row_of, rules::specs::Line::row_in, rules::specs::Line::headers, rules::specs::Line::read_as_over, rules::specs::Line::said, rules::specs::Line::header_shape_in, crate::specs::Fitting::shape_said, crate::specs::Fitting::values_of))]
 fn block_line(line: &[u8], code: u16, unknown: Fault) -> Result<Header, Fault>
-    ensures { header_in result ≡ shape_said (header_shape_in (row_of code)) unknown (length line.now + 1) (fields_of line.now) }
+    ensures { said_as Head result ≡ shape_said (header_shape_in (row_of code)) unknown (length line.now + 1) (fields_of line.now) }
 {
     match code {
         0 => {
@@ -59,13 +60,13 @@ fn block_line(line: &[u8], code: u16, unknown: Fault) -> Result<Header, Fault>
 }
 
 // A header, whose code starts at `start`.
-pub fn header_line(line: &[u8], start: usize) -> Result<LineAnswer, Fault>
+pub fn header_line(line: &[u8], start: usize) -> Result<Header, Fault>
     requires { StartsAt 0 line.now start }
-    ensures { answer_in result ≡ shape_said (shape_for AnyHeader (fields_of line.now)) (fault BadMarker (start + 1)) (length line.now + 1) (fields_of line.now) }
+    ensures { said_as Head result ≡ shape_said (shape_for AnyHeader (fields_of line.now)) (fault BadMarker (start + 1)) (length line.now + 1) (fields_of line.now) }
 {
     let unknown = fault_at(FaultKind::BadMarker, start);
     let Some(code) = read_number(next_field(line, start)) else {
         return Err(unknown);
     };
-    Ok(LineAnswer::Head(block_line(line, code, unknown)?))
+    block_line(line, code, unknown)
 }

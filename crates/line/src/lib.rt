@@ -7,7 +7,7 @@ ghost use Rattle.rules.specs.Text.{legal_front, fields_of};
 ghost use Rattle.rules.specs.declared.line.FaultKind.TheVariants.{BadMarker};
 ghost use Rattle.rules.specs.Line.{fault, shape_for, line_of, test_bytes, line_answer};
 ghost use Rattle.line.specs.Fields.{StartsAt};
-ghost use Rattle.line.specs.Fitting.{answer_in, shape_said};
+ghost use Rattle.line.specs.Fitting.{said_as, shape_said};
 
 use crate::fields::{NUMBER, fault_at};
 use crate::fitting::fit;
@@ -35,14 +35,14 @@ const SUB_RECORDS: Kind = Kind::Number {
 #[tactic(auto, unfolding(rules::specs::Line::shape_for, rules::specs::Line::read_as_over, rules::specs::Line::record_shape, rules::specs::Line::said, crate::specs::Fitting::shape_said, crate::specs::Fitting::values_of))]
 fn shape_line(line: &[u8], start: usize, expected: Expected) -> Result<LineAnswer, Fault>
     requires { StartsAt 0 line.now start }
-    ensures { answer_in result ≡ shape_said (shape_for expected (fields_of line.now)) (fault BadMarker (start + 1)) (length line.now + 1) (fields_of line.now) }
+    ensures { said_as (λ answer. answer) result ≡ shape_said (shape_for expected (fields_of line.now)) (fault BadMarker (start + 1)) (length line.now + 1) (fields_of line.now) }
 {
     match expected {
-        Expected::AnyHeader => header_line(line, start),
+        Expected::AnyHeader => Ok(LineAnswer::Head(header_line(line, start)?)),
         Expected::OpeningTitle => Ok(LineAnswer::Opening(name_alone(line)?)),
         Expected::ClosingTitle => Ok(LineAnswer::Closing(name_alone(line)?)),
-        Expected::CodeRecord => code_line(line, start),
-        Expected::EntryRecord => entry_line(line),
+        Expected::CodeRecord => Ok(LineAnswer::Code(code_line(line, start)?)),
+        Expected::EntryRecord => Ok(LineAnswer::Entered(entry_line(line)?)),
         Expected::ExternalRecord => Ok(LineAnswer::Mentioned(name_alone(line)?)),
         Expected::DataRecord => {
             fit(line, &[NUMBER, NUMBER])?;
@@ -65,7 +65,7 @@ fn shape_line(line: &[u8], start: usize, expected: Expected) -> Result<LineAnswe
 
 // What the fields of the line say. A line with no field is skipped.
 fn fields_say(line: &[u8], expected: Expected) -> Result<LineAnswer, Fault>
-    ensures { answer_in result ≡ line_of expected (length line.now + 1) (fields_of line.now) }
+    ensures { said_as (λ answer. answer) result ≡ line_of expected (length line.now + 1) (fields_of line.now) }
 {
     let start = field_start(line, 0);
     if start == line.len() {

@@ -2,12 +2,13 @@
 ghost use Rattle.std.specs.Prelude.{false, ◌≡◌, ◌+◌, length};
 ghost use Rattle.rules.specs.Text.{fields_of};
 ghost use Rattle.rules.specs.Line.{read_as, record_shape, linked_code, starred, code_shape, word_of, relocation_of};
+ghost use Rattle.rules.specs.declared.line.LineAnswer.TheVariants.{Code};
 ghost use Rattle.line.specs.Fields.{StartsAt};
-ghost use Rattle.line.specs.Fitting.{answer_in};
+ghost use Rattle.line.specs.Fitting.{said_as};
 
 use crate::fields::{EXTERNAL_TYPE, NUMBER, no_more, number_at};
 use crate::fitting::fit;
-use rules::line::{CodeWord, Fault, FaultKind, Kind, LineAnswer, Relocation};
+use rules::line::{CodeWord, Fault, FaultKind, Kind, Relocation};
 use text::fields::next_field;
 use text::markers::is_star;
 
@@ -41,8 +42,8 @@ fn relocation_of(kind: u16, arg: u16) -> Relocation
 
 // A code record with an asterisk: four quarters and a relocation.
 #[tactic(auto, unfolding(rules::specs::Line::read_as_over, rules::specs::Line::record_shape, rules::specs::Line::said, crate::specs::Fitting::values_of))]
-fn linked_line(line: &[u8]) -> Result<LineAnswer, Fault>
-    ensures { answer_in result ≡ read_as (record_shape linked_code) (length line.now + 1) (fields_of line.now) }
+fn linked_line(line: &[u8]) -> Result<CodeWord, Fault>
+    ensures { said_as Code result ≡ read_as (record_shape linked_code) (length line.now + 1) (fields_of line.now) }
 {
     let n = fit(
         line,
@@ -57,18 +58,18 @@ fn linked_line(line: &[u8]) -> Result<LineAnswer, Fault>
             NUMBER,
         ],
     )?;
-    Ok(LineAnswer::Code(CodeWord {
+    Ok(CodeWord {
         text: word(n[1], n[2], n[3], n[4]),
         relocation: relocation_of(n[6], n[7]),
-    }))
+    })
 }
 
 // A code record without one: four quarters. Those in their usual form, most of all lines, crate `usual` reads ahead of this. Within the
 // reading's loop its columns would take registers from what the loop keeps.
 #[inline(never)]
-fn plain_line(line: &[u8]) -> Result<LineAnswer, Fault>
+fn plain_line(line: &[u8]) -> Result<CodeWord, Fault>
     requires { starred (fields_of line.now) ≡ false }
-    ensures { answer_in result ≡ read_as (code_shape (fields_of line.now)) (length line.now + 1) (fields_of line.now) }
+    ensures { said_as Code result ≡ read_as (code_shape (fields_of line.now)) (length line.now + 1) (fields_of line.now) }
 {
     let mut text: u64 = 0;
     let mut i = 0;
@@ -78,16 +79,16 @@ fn plain_line(line: &[u8]) -> Result<LineAnswer, Fault>
         i = quarter.end;
     }
     no_more(line, i)?;
-    Ok(LineAnswer::Code(CodeWord {
+    Ok(CodeWord {
         text,
         relocation: Relocation::Plain,
-    }))
+    })
 }
 
 // Is the first field, which starts at `start`, an asterisk? Of most lines its first byte tells.
-pub fn code_line(line: &[u8], start: usize) -> Result<LineAnswer, Fault>
+pub fn code_line(line: &[u8], start: usize) -> Result<CodeWord, Fault>
     requires { StartsAt 0 line.now start }
-    ensures { answer_in result ≡ read_as (code_shape (fields_of line.now)) (length line.now + 1) (fields_of line.now) }
+    ensures { said_as Code result ≡ read_as (code_shape (fields_of line.now)) (length line.now + 1) (fields_of line.now) }
 {
     if line[start] != b'*' {
         return plain_line(line);

@@ -3,16 +3,13 @@
 use mathlib.Core.Path.{refl}
 use Rattle.line.proofs.FitLaws.{kept_start, kept_wrong, kept_step, kept_many, kept_end}
 use borrow.Author.Rules.{rules}
-use Rattle.std.proofs.lemmas.Result.{err_from_is_err_and}
 use Rattle.line.proofs.fitting.fit.Goals as goal
 
 pub loop-k-init : goal.loop-k-init
 loop-k-init c = kept_start _ _ _ refl
 
 pub returns-in_err-field : goal.returns-in_err-field
-returns-in_err-field c =
-    let p = err_from_is_err_and c.from_residual.result c.from_residual.ensures.1 in
-    rw (p.1, p.2) (kept_wrong c.loop-k.invariant _ (search rules) c.in_err-field.ensures)
+returns-in_err-field c = search (rules, kept_wrong c.loop-k.invariant _ (search rules) c.in_err-field.ensures)
 
 pub loop-k-preserved : goal.loop-k-preserved
 loop-k-preserved c = kept_step c.loop-k.invariant _ (search rules) _ (search rules) c.in_ok-field.ensures

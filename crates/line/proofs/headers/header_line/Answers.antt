@@ -1,6 +1,5 @@
 -- `line::headers::header_line` meets its contract: by its code.
 -- Assumes nothing.
-use borrow.Author.Rules.{rules}
 use Rattle.rules.specs.Line.{shape_for, row_at, header_shape_in}
 use Rattle.line.specs.Fitting.{shape_said}
 use Rattle.line.proofs.PeekLaws.{first_is}
@@ -11,12 +10,7 @@ unfolding shape_for shape_said row_at header_shape_in
 returns-in_default c =
     rw (← c.fault_at-unknown.ensures, first_is _ _ c.requires, ← c.next_field.ensures.bytes, ← c.read_number.ensures, c.in_default.is)
 
-pub returns-in_err-block_line : goal.returns-in_err-block_line
-unfolding shape_for row_at
-returns-in_err-block_line c =
-    rw (← c.fault_at-unknown.ensures, first_is _ _ c.requires, ← c.next_field.ensures.bytes, ← c.read_number.ensures, c.in-Some.is) (search (rules, c.in_err-block_line.ensures))
-
 pub returns : goal.returns
 unfolding shape_for row_at
 returns c =
-    rw (← c.fault_at-unknown.ensures, first_is _ _ c.requires, ← c.next_field.ensures.bytes, ← c.read_number.ensures, c.in-Some.is) c.in_ok-block_line.ensures
+    rw (← c.fault_at-unknown.ensures, first_is _ _ c.requires, ← c.next_field.ensures.bytes, ← c.read_number.ensures, c.in-Some.is) c.block_line.ensures
