@@ -1,20 +1,13 @@
 // Numbers: one to six octal digits, at most 177777.
 ghost use Rattle.std.specs.Prelude.{◌≡◌, ◌+◌, ◌≤◌, min};
-ghost use Rattle.rules.specs.Limits.{most_digits};
 ghost use Rattle.rules.specs.Text.{number_of};
 ghost use Rattle.text.specs.Scan.{InFile};
-ghost use Rattle.text.specs.Values.{number_in, small};
+ghost use Rattle.text.specs.Values.{value_in, small};
 ghost use Rattle.text.specs.Digits.{DigitsRead, FieldRead};
 
 use crate::fields::next_field;
 use crate::scan::SPACE;
-use rules::limits::{LARGEST_NUMBER, MOST_DIGITS};
-
-#[derive(Clone, Copy)]
-pub enum Number {
-    Value(u16),
-    NotANumber,
-}
+use rules::limits::MOST_DIGITS;
 
 // Digits at the front of a text, at most six: their value, and where they end.
 #[derive(Clone, Copy)]
@@ -23,60 +16,35 @@ pub struct DigitRun {
     pub end: usize,
 }
 
-// As many bytes on as a number has digits, or where the text stops.
-fn digits_on(at: usize, stop: usize) -> usize
-    requires { at ≤ stop }
-    ensures { result ≡ min (at + most_digits) stop }
-{
-    if MOST_DIGITS < stop - at {
-        return at + MOST_DIGITS;
-    }
-    stop
-}
-
 pub fn digits(file: &[u8], at: usize, stop: usize) -> DigitRun
     requires { InFile at stop file.now }
     ensures { DigitsRead at stop file.now result }
 {
-    let most = digits_on(at, stop);
+    let most = at + MOST_DIGITS.min(stop - at);
     let mut value: u32 = 0;
-    let mut i = at;
-    while i < most {
+    for i in at..most {
         let digit = file[i];
-        if digit < 48 {
+        if digit < b'0' || b'7' < digit {
             return DigitRun { value, end: i };
         }
-        if 55 < digit {
-            return DigitRun { value, end: i };
-        }
-        value = value * 8 + (digit - 48) as u32;
-        i += 1;
+        value = value * 8 + (digit - b'0') as u32;
     }
-    DigitRun { value, end: i }
+    DigitRun { value, end: most }
 }
 
-fn as_number(value: u32) -> Number
-    ensures { number_in result ≡ small value }
+fn as_number(value: u32) -> Option<u16>
+    ensures { value_in result ≡ small value }
 {
-    if LARGEST_NUMBER < value {
-        return Number::NotANumber;
-    }
-    Number::Value(value as u16)
+    u16::try_from(value).ok()
 }
 
-pub fn read_number(field: &[u8]) -> Number
-    ensures { number_in result ≡ number_of field.now }
+pub fn read_number(field: &[u8]) -> Option<u16>
+    ensures { value_in result ≡ number_of field.now }
 {
     let n = field.len();
-    if n == 0 {
-        return Number::NotANumber;
-    }
-    if MOST_DIGITS < n {
-        return Number::NotANumber;
-    }
     let run = digits(field, 0, n);
-    if run.end != n {
-        return Number::NotANumber;
+    if n == 0 || run.end != n {
+        return None;
     }
     as_number(run.value)
 }
@@ -84,7 +52,7 @@ pub fn read_number(field: &[u8]) -> Number
 // A field as a number, and where the field ends where it starts at the position asked for.
 #[derive(Clone, Copy)]
 pub struct NumberField {
-    pub number: Number,
+    pub number: Option<u16>,
     pub end: usize,
 }
 
@@ -107,16 +75,7 @@ pub fn field_number(file: &[u8], at: usize, stop: usize) -> NumberField
 {
     let run = digits(file, at, stop);
     let end = run.end;
-    if end == at {
-        return any_field(file, at, stop);
-    }
-    if end == stop {
-        return NumberField {
-            number: as_number(run.value),
-            end,
-        };
-    }
-    if file[end] != SPACE {
+    if end == at || end < stop && file[end] != SPACE {
         return any_field(file, at, stop);
     }
     NumberField {
