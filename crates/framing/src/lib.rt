@@ -20,6 +20,13 @@ pub struct Frame {
     pub next: usize,
 }
 
+// The code of a header, which is one digit, and where the field behind it starts.
+#[derive(Clone, Copy)]
+struct Code {
+    digit: u8,
+    behind: usize,
+}
+
 // A number of a header, and where the field behind it starts.
 #[derive(Clone, Copy)]
 struct Count {
@@ -33,6 +40,17 @@ fn text_end(file: &[u8], i: usize, text: &[u8]) -> Option<usize>
     ensures { IfSome result (TextEnds file.now i text.now) }
 {
     file[i..].starts_with(text).then_some(i + text.len())
+}
+
+// The code of the line at `at`, with spaces behind it.
+fn code_at(file: &[u8], at: usize) -> Option<Code>
+    requires { at < length file.now }
+    ensures { IfSome result (λ c. Begun file.now at c.behind c.digit) }
+{
+    let start = spaces_end(file, at);
+    let digit = *file.get(start)?;
+    let behind = gap_end(file, start + 1)?;
+    Some(Code { digit, behind })
 }
 
 // The number at i, with spaces behind it.
@@ -64,10 +82,8 @@ fn header(file: &[u8], at: usize) -> Option<Frame>
     requires { at < length file.now }
     ensures { IfSome result (λ f. LineSaid AnyHeader at file.now f.answer f.next) }
 {
-    let start = spaces_end(file, at);
-    let code = *file.get(start)?;
-    let i = gap_end(file, start + 1)?;
-    match code {
+    let Code { digit, behind: i } = code_at(file, at)?;
+    match digit {
         b'0' => {
             let count = count_at(file, i)?;
             let offset = count_at(file, count.behind)?;
