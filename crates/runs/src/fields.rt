@@ -24,6 +24,8 @@ fn is_octal(byte: u8) -> bool
 
 // The number at i, ahead of the file's end by at least as many bytes as a number has. A seventh digit is left to whoever looks for what
 // stands behind. The turns are so few that the compiler writes them out in a row.
+// Kept: a loop of its own here, in `name_end` and in `spaces_end`. With one function for the first two, which takes the test as a closure,
+// a load in pieces takes 3 to 7 % more instructions, with text's `front` for all three 5 to 18 %, with `take_while` and `count` 6 to 23 %.
 pub fn number_at(file: &[u8], i: usize) -> Option<usize>
     requires { i + 6 ≤ length file.now }
     ensures field { IfSome result (IsField is_number file.now i) }

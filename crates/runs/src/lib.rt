@@ -1,6 +1,8 @@
 // Records that follow each other in their usual form: the right fields, with spaces between them and, where they stand in columns, around
 // them. They are found to be right without their values, and without a mode made anew for each. A line in any other form ends the run,
 // and is then read as every line can be: nothing is told of faults here.
+// Kept: the file and a position in it as two parameters. A struct of both would be no plainer: what is promised speaks of two positions in
+// the same file, where a field starts and where it ends, so each answer would hold the file once more.
 #![tactic(auto)]
 
 pub mod fields;
