@@ -15,7 +15,7 @@ fn lower(remaining: u16, most: u16, there: u16) -> usize
 }
 
 // How many records may follow: those of the open block, and no more entries or externals than a module has room for.
-#[tactic(auto, using(crate::proofs::CaseLaws::no_room_lem), unfolding(crate::specs::Modes::room_by))]
+#[tactic(auto, unfolding(crate::specs::Modes::room_by))]
 pub fn room(m: Mode) -> usize
     ensures { result ≡ room_for m }
 {
@@ -40,7 +40,7 @@ fn then_expected(m: Mode, k: u16) -> Expected
 }
 
 // The open module behind k more of its records.
-#[tactic(auto, using(crate::proofs::CaseLaws::no_entries, crate::proofs::CaseLaws::no_externals), unfolding(crate::specs::Modes::room_by, crate::specs::Modes::entries_in, crate::specs::Modes::externals_in))]
+#[tactic(auto, unfolding(crate::specs::Modes::room_by, crate::specs::Modes::entries_in, crate::specs::Modes::externals_in))]
 fn then_object(m: Mode, k: u16) -> OpenModule
     requires { k ≤ room_for m }
     ensures { result ≡ record m.object { entries = m.object.entries + entries_in m.expected k; externals = m.object.externals + externals_in m.expected k } }
