@@ -73,6 +73,7 @@ pub fn name_end(file: &[u8], i: usize) -> Option<usize>
 }
 
 // Where the spaces end that start at i.
+#[tactic(auto, using(crate::proofs::StretchLaws::stretch_start, crate::proofs::StretchLaws::stretch_step))]
 pub fn spaces_end(file: &[u8], i: usize) -> usize
     requires { i ≤ length file.now }
     ensures { Stretch is_space file.now i result }
@@ -95,6 +96,7 @@ pub fn gap_end(file: &[u8], i: usize) -> Option<usize>
 }
 
 // A field of one byte behind spaces from i on, which is none below `low` and none above `high`.
+#[tactic(auto, using(crate::proofs::SpelledLaws::byte_found))]
 pub fn byte_end(file: &[u8], i: usize, low: u8, high: u8) -> Option<usize>
     requires i_in_bounds { i ≤ length file.now }
     requires le_low { (33 ≤ low) × (high ≤ 126) }
@@ -122,6 +124,7 @@ pub fn near_number(file: &[u8], i: usize) -> Option<usize>
 }
 
 // The number behind spaces from i on.
+#[tactic(auto, using(crate::proofs::SpelledLaws::number_spaced))]
 pub fn next_number(file: &[u8], i: usize) -> Option<usize>
     requires { i ≤ length file.now }
     ensures { IfSome result (NumberFollows file.now i) }
@@ -130,6 +133,7 @@ pub fn next_number(file: &[u8], i: usize) -> Option<usize>
 }
 
 // So many numbers, each behind spaces, from i on.
+#[tactic(auto, using(crate::proofs::SpelledLaws::numbers_more))]
 pub fn numbers_end(file: &[u8], i: usize, count: usize) -> Option<usize>
     requires { i ≤ length file.now }
     ensures { IfSome result (λ end. Numbers file.now i end count) }

@@ -32,6 +32,7 @@ fn line_stop(file: &[u8], at: usize, stop: usize) -> Option<usize>
 }
 
 // The last field of the line from `at` on ends at `end`: where the next line starts. There may be spaces behind it, as on a card.
+#[tactic(auto, using(crate::proofs::LineReadLaws::line_ended))]
 pub fn line_end(file: &[u8], at: usize, end: usize) -> Option<usize>
     requires { (at ≤ end) × (end ≤ length file.now) }
     ensures { IfSome result (LineEnded file.now at end) }
@@ -40,6 +41,7 @@ pub fn line_end(file: &[u8], at: usize, end: usize) -> Option<usize>
 }
 
 // A word with a type, from `start` on: an asterisk, the quarters, 0, the type, and what it refers to.
+#[tactic(auto, using(crate::proofs::LineReadLaws::linked_read))]
 fn linked_word(file: &[u8], at: usize, start: usize) -> Option<usize>
     requires { Stretch is_space file.now at start }
     ensures { IfSome result (LineRead CodeRecord at file.now) }
@@ -55,6 +57,9 @@ fn linked_word(file: &[u8], at: usize, start: usize) -> Option<usize>
 }
 
 // Four numbers, the quarters, with one space between them, ahead of the file's end by as many bytes as they can have.
+// Kept beside `far_word`, which finds them too: each of its quarters looks at the file's end, and without this function one block of words in
+// pieces takes 24 % more instructions, a full file of modules 7 %.
+#[tactic(auto, using(crate::proofs::LineReadLaws::near_read))]
 fn near_word(file: &[u8], at: usize) -> Option<usize>
     requires { at + 27 ≤ length file.now }
     ensures { IfSome result (LineRead CodeRecord at file.now) }
@@ -67,6 +72,7 @@ fn near_word(file: &[u8], at: usize) -> Option<usize>
 }
 
 // The same in columns.
+#[tactic(auto, using(crate::proofs::LineReadLaws::word_read))]
 fn far_word(file: &[u8], at: usize) -> Option<usize>
     requires { at ≤ length file.now }
     ensures { IfSome result (LineRead CodeRecord at file.now) }
@@ -91,6 +97,7 @@ pub fn word(file: &[u8], at: usize) -> Option<usize>
 }
 
 // An external: its name.
+#[tactic(auto, using(crate::proofs::LineReadLaws::external_read))]
 pub fn external(file: &[u8], at: usize) -> Option<usize>
     requires { at ≤ length file.now }
     ensures { IfSome result (LineRead ExternalRecord at file.now) }
@@ -100,6 +107,7 @@ pub fn external(file: &[u8], at: usize) -> Option<usize>
 }
 
 // An entry: its name and value, then 0, or 1 and a number.
+#[tactic(auto, using(crate::proofs::LineReadLaws::absolute_read, crate::proofs::LineReadLaws::relocated_read))]
 pub fn entry(file: &[u8], at: usize) -> Option<usize>
     requires { at ≤ length file.now }
     ensures { IfSome result (LineRead EntryRecord at file.now) }
@@ -115,6 +123,7 @@ pub fn entry(file: &[u8], at: usize) -> Option<usize>
 }
 
 // A record of a data block: two numbers.
+#[tactic(auto, using(crate::proofs::LineReadLaws::pair_read))]
 pub fn pair(file: &[u8], at: usize) -> Option<usize>
     requires { at ≤ length file.now }
     ensures { IfSome result (LineRead DataRecord at file.now) }
