@@ -1,4 +1,5 @@
 -- The arms of a `match` on what is expected that stand for all the others.
+-- Kept, though the check finds them alone by now: docs/PORT.md names them.
 use Prim.Native.Nat.{ℕ}
 use mathlib.Core.Logic.{◌≢◌}
 use mathlib.Core.Path.{◌≡◌, refl}
