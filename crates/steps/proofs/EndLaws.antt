@@ -2,11 +2,10 @@
 use Prim.Native.Nat.{ℕ}
 use mathlib.Core.Bool.{Bool, true, false, not, ◌&&◌, ◌||◌, and-false, or-true}
 use mathlib.Core.Path.{◌≡◌, refl, ap, ap₂, ◌∙◌}
-use Rattle.rules.specs.Reading.{is_header, at_end}
+use Rattle.rules.specs.Reading.{is_header, at_end, Complete, Stopped}
 use Rattle.rules.specs.declared.line.Expected.{Expected}
 use Rattle.rules.specs.declared.line.Expected.TheVariants.{AnyHeader, OpeningTitle, ClosingTitle, CodeRecord, EntryRecord, ExternalRecord, DataRecord, InitRecord, ParameterRecord, SubRecord}
 use Rattle.rules.specs.declared.reading.Mode.{Mode}
-use Rattle.rules.specs.declared.reading.Reading.TheVariants.{Complete, Stopped}
 use Rattle.steps.proofs.CaseLaws.{if_true, if_false}
 
 not_header_lem : (w : Expected) → (w ≡ AnyHeader → ⊥) → is_header w ≡ false

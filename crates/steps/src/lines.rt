@@ -10,7 +10,7 @@ use crate::records::{
 use crate::stops::bad_line;
 use rules::answer::PLACE;
 use rules::line::{Expected, LineAnswer};
-use rules::reading::{Mode, Reading, Step};
+use rules::reading::{Mode, Reading, Step, Stop};
 
 // What line n does where it says this and the reading stands at m.
 pub fn step_of(n: u32, m: Mode, answer: LineAnswer) -> Step
@@ -38,11 +38,11 @@ pub fn step_of(n: u32, m: Mode, answer: LineAnswer) -> Step
 pub fn at_end(n: u32, m: Mode) -> Reading
     ensures { result ≡ at_end n m }
 {
-    let cut = Reading::Stopped {
+    let cut = Err(Stop {
         number: PLACE,
         line: n,
         column: 0,
-    };
+    });
     if m.object.inside {
         return cut;
     }
@@ -51,7 +51,7 @@ pub fn at_end(n: u32, m: Mode) -> Reading
     }
     let expected = m.expected;
     match expected {
-        Expected::AnyHeader => Reading::Complete,
+        Expected::AnyHeader => Ok(()),
         _ => cut,
     }
 }

@@ -5,30 +5,11 @@ ghost use Rattle.rules.specs.Reading.{mode, at_start, expect, expect_records, re
 use rules::line::Expected;
 use rules::reading::{Mode, OpenBlock, OpenModule, OpenSection};
 
+#[tactic(auto, unfolding(rules::specs::Reading::at_start))]
 pub fn at_start() -> Mode
     ensures { result ≡ at_start }
 {
-    Mode {
-        expected: Expected::AnyHeader,
-        block: OpenBlock {
-            offset: 0,
-            count: 0,
-            remaining: 0,
-            subs: 0,
-        },
-        object: OpenModule {
-            inside: false,
-            title: 0,
-            line: 0,
-            entries: 0,
-            externals: 0,
-        },
-        section: OpenSection {
-            inside: false,
-            line: 0,
-            modules: 0,
-        },
-    }
+    Mode::default()
 }
 
 // The same module and section, with another line expected and another block open. It is made field by field: a struct that is
