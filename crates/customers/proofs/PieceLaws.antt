@@ -24,7 +24,7 @@ use Rattle.feed.specs.Sequence.{stop, step}
 use Rattle.feed.proofs.Claims.{zero_sound, left_sound, as_one_load, feed_zero, advice_told}
 use Rattle.rules.proofs.FeedLaws.{no_fault, told_is}
 use Rattle.customers.specs.Pieces.{LoadedInTwo, Tried}
-use Rattle.rules.specs.Reading.{Reading, Complete, Stopped}
+use Rattle.rules.specs.Reading.{Reading, Complete}
 
 two_joined : (p q : List ℕ) → length p ≤ longest_piece → length q ≤ longest_piece → joined (p ∷ q ∷ []) ≡ p ++ q
 unfolding joined

@@ -29,7 +29,7 @@ use Rattle.feed.specs.Layout.{feed_size, encode_feed, lent_feed, feed_cells_afte
 use Rattle.feed.specs.Promise.{FeedCalled, Closed}
 use Rattle.feed.specs.Sequence.{Fed, stop, step, Bytes, Taken, LeftByPieces}
 use Rattle.feed.proofs.FeedLaws.{lent_encode_feed, held_feed, sound_shut, sound_kept, small_append, fed_kept, fed_small}
-use Rattle.rules.specs.Reading.{Reading, Complete, Stopped}
+use Rattle.rules.specs.Reading.{Reading, Complete}
 
 -- ---- an opening that is answered DONE
 

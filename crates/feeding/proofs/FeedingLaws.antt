@@ -12,7 +12,7 @@ use borrow.Author.Tests.{eq-eqb, ne_eqb, lt-ltb, le-ltb, le-leb, lt-leb}
 use Rattle.std.specs.Prelude.{Err}
 use Rattle.rules.specs.Limits.{longest_file, work_size}
 use Rattle.rules.specs.Text.{all, lines_of}
-use Rattle.rules.specs.Reading.{unread, if_complete, read_lines, Reading, Complete, Stopped}
+use Rattle.rules.specs.Reading.{unread, if_complete, read_lines, Reading, Complete}
 use Rattle.rules.specs.Calls.{LentOf, wrong_length, damaged, holding, as_before, now, Lent, load_answer, load, work_after}
 use Rattle.rules.specs.Feed.{Feed, shut, fed, too_many, is_byte, sound_feed, whole_lines, fault_so_far, advice, FeedOutcome, feed_outcome, feed_stopped, feed_done, open_feed, feed_answer, piece_stopped, advised, take_piece, feed_piece, drop_feed, close_outcome, close_stopped, close_feed}
 use Rattle.rules.specs.declared.answer.LoadAnswer.{LoadAnswer}

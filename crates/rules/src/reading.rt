@@ -13,6 +13,8 @@ pub struct OpenBlock {
 
 // The object module being read: whether there is one, its title, the line of its TITLE header, and how many entries and
 // externals it has so far.
+// Kept: the line is noted before the module is inside (`title_header`), so that it has no place in an Option of the module; and the
+// definitions `at_end`, `header_step`, `module_done` and the law `ends_too_soon` say by `inside` what is open.
 #[derive(Clone, Copy, Default)]
 pub struct OpenModule {
     pub inside: bool,
@@ -23,6 +25,7 @@ pub struct OpenModule {
 }
 
 // The library section being read: whether there is one, the line of its LSB header, and how many modules it has so far.
+// Kept: `inside` stands as it does in the module, for the same definitions.
 #[derive(Clone, Copy, Default)]
 pub struct OpenSection {
     pub inside: bool,
@@ -54,7 +57,8 @@ pub enum Part {
 // What a line does to the reading.
 #[derive(Clone, Copy)]
 pub enum Step {
-    // Answer 6, 7 or 8, at a column (0 where none is named).
+    // Answer 6, 7 or 8, or one of 17 to 21, at a column (0 where none is named).
+    // Kept: rules' definitions and theorems (`misplaced`, `fault_number`, `right_column`) say answers by the documents' numbers.
     Stop { number: u64, column: usize },
     Next(Mode),
     // The next mode, with one part of the open module.
@@ -65,7 +69,7 @@ pub enum Step {
 }
 
 // Why reading stops: an answer's number, the line of the file, and the column, 0 where none is named.
-// Kept: the number is the documents' own, since rules' definitions and theorems (`Stopped`, `is_file_fault`, `right_column`) say it so.
+// Kept: rules' definitions and theorems (`is_file_fault`, `right_column`) say answers by the documents' numbers.
 #[derive(Clone, Copy)]
 pub struct Stop {
     pub number: u64,
