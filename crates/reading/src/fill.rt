@@ -8,7 +8,7 @@ use tables::parts::{part_body, part_head};
 use tables::rows::{FREE, MEMBER, SECTION, row_body, row_head};
 
 // How many parts and rows are written, and where the parts of the open module and the rows of the open section begin.
-#[derive(Clone, Copy)]
+#[derive(Clone, Copy, Default)]
 pub struct Filled {
     pub parts: usize,
     pub rows: usize,
@@ -17,15 +17,11 @@ pub struct Filled {
 }
 
 // Empty tables.
+#[tactic(auto, unfolding(crate::specs::TwoTables::empty))]
 pub fn nothing() -> Filled
     ensures { result ≡ filled_of empty }
 {
-    Filled {
-        parts: 0,
-        rows: 0,
-        object: 0,
-        section: 0,
-    }
+    Filled::default()
 }
 
 // Two cells: element i of a table.
@@ -45,9 +41,7 @@ pub fn add_part(parts: &mut [u64], filled: Filled, part: Part) -> Filled
     put(parts, filled.parts, part_head(part), part_body(part));
     Filled {
         parts: filled.parts + 1,
-        rows: filled.rows,
-        object: filled.object,
-        section: filled.section,
+        ..filled
     }
 }
 
@@ -60,18 +54,17 @@ pub fn close_module(rows: &mut [u64], filled: Filled, member: bool, line: u32) -
     if member {
         put(rows, filled.rows, row_head(MEMBER, line), body);
         return Filled {
-            parts: filled.parts,
             rows: filled.rows + 1,
             object: filled.parts,
-            section: filled.section,
+            ..filled
         };
     }
     put(rows, filled.rows, row_head(FREE, line), body);
     Filled {
-        parts: filled.parts,
         rows: filled.rows + 1,
         object: filled.parts,
         section: filled.rows + 1,
+        ..filled
     }
 }
 
@@ -83,9 +76,9 @@ pub fn close_section(rows: &mut [u64], filled: Filled, line: u32) -> Filled
     let body = row_body(filled.section, filled.rows);
     put(rows, filled.rows, row_head(SECTION, line), body);
     Filled {
-        parts: filled.parts,
         rows: filled.rows + 1,
         object: filled.parts,
         section: filled.rows + 1,
+        ..filled
     }
 }

@@ -2,6 +2,7 @@
 ghost use Rattle.std.specs.Prelude.{◌<◌, true, ◌≡◌, length};
 ghost use Rattle.framing.specs.Framing.{LineSaid};
 
+use crate::keep::Keep;
 use framing::{Frame, declined, usual_frame};
 use line::line_answer;
 use line_reader::line_from;
@@ -14,32 +15,31 @@ pub struct Said {
 }
 
 // A header or a title in its usual form, where nothing of what the lines say is kept.
-fn frame_from(file: &[u8], at: usize, expected: Expected, keep: bool) -> Frame
+fn frame_from<K: Keep>(file: &[u8], at: usize, expected: Expected) -> Frame
     requires { at < length file.now }
     ensures { result.fits ≡ true → LineSaid expected at file.now result.answer result.next }
 {
-    if keep {
+    if K::keeps() {
         return declined();
     }
     usual_frame(file, at, expected)
 }
 
 // The line at `at`, given what is expected of it.
-pub fn said_at(file: &[u8], at: usize, expected: Expected, keep: bool) -> Said
+pub fn said_at<K: Keep>(file: &[u8], at: usize, expected: Expected) -> Said
     requires { at < length file.now }
     ensures { LineSaid expected at file.now result.answer result.next }
 {
-    let frame = frame_from(file, at, expected, keep);
+    let frame = frame_from::<K>(file, at, expected);
     if frame.fits {
-        let answer = frame.answer;
         return Said {
-            answer,
+            answer: frame.answer,
             next: frame.next,
         };
     }
     let span = line_from(file, at);
     Said {
-        answer: line_answer(file, at, span.stop, span.front, expected),
+        answer: line_answer(&file[at..span.stop], span.front, expected),
         next: span.next,
     }
 }
