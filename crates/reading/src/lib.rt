@@ -108,8 +108,7 @@ pub fn read_lines<K: Keep>(
             at = run.next;
             continue;
         }
-        let word = usual_word(file, at, here.expected);
-        if word.fits {
+        if let Some(word) = usual_word(file, at, here.expected) {
             filled = K::part(parts, filled, word_part(here, plain(word.text)));
             mode = record_done(Expected::CodeRecord, here);
             at = word.next;
@@ -120,15 +119,8 @@ pub fn read_lines<K: Keep>(
         at = said.next;
         match step {
             Step::Stop { number, column } => {
-                let stop = Stop {
-                    number,
-                    line: n,
-                    column,
-                };
-                return LinesRead {
-                    reached: Err(stop),
-                    filled,
-                };
+                let reached = Err(Stop { number, line: n, column });
+                return LinesRead { reached, filled };
             }
             Step::Next(m) => mode = m,
             Step::Add(m, part) => {
@@ -145,10 +137,8 @@ pub fn read_lines<K: Keep>(
             }
         }
     }
-    LinesRead {
-        reached: Ok(Clean { mode, line }),
-        filled,
-    }
+    let reached = Ok(Clean { mode, line });
+    LinesRead { reached, filled }
 }
 
 // A whole file, into the tables.

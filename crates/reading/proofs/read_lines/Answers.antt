@@ -9,19 +9,20 @@ use Rattle.rules.specs.declared.reading.Step.{Step}
 use Rattle.rules.specs.declared.reading.Step.TheVariants.{Add}
 use Rattle.runs.proofs.ModeLaws.{room_most}
 use Rattle.reading.proofs.LoopLaws.{Turn, start, said_turn, word_turn, empty_turn, faulty, skipped, run_on, part_room_is, added, module_room, module_closed, section_room, section_closed, whole}
+use Rattle.reading.proofs.read_lines.Given as given
 use Rattle.reading.proofs.read_lines.Goals as goal
 use Rattle.reading.proofs.read_lines.Goals.{After-step_of-step, After-word_part}
 
 -- the line is a code word in its usual form
-worded : (g : goal.Generics) (c : After-word_part g) {k : Mode} → k ≡ record_done CodeRecord c.renewed-here.result
+worded : (g : given.Over) (c : After-word_part g) {k : Mode} → k ≡ record_done CodeRecord c.renewed-here.result
     → Turn c.args.file.now c.args.from g.K.Keep.keeps c.args.parts.now c.args.rows.now
-    c.loop-at.mode c.loop-at.line c.loop-at.at c.usual_word-word.result.next (Add k c.word_part.result)
+    c.loop-at.mode c.loop-at.line c.loop-at.at c.in-Some.word.next (Add k c.word_part.result)
 worded g c e =
-    word_turn _ _ _ _ _ _ _ _ c.renewed-here.ensures (c.usual_word-word.ensures c.if-word.true)
+    word_turn _ _ _ _ _ _ _ _ c.renewed-here.ensures c.in-Some.ensures
     c.plain.ensures e c.word_part.ensures
 
 -- the line's step is s
-stepped : (g : goal.Generics) (c : After-step_of-step g) {s : Step} → c.step_of-step.result ≡ s
+stepped : (g : given.Over) (c : After-step_of-step g) {s : Step} → c.step_of-step.result ≡ s
     → Turn c.args.file.now c.args.from g.K.Keep.keeps c.args.parts.now c.args.rows.now
     c.loop-at.mode c.loop-at.line c.loop-at.at c.said_at-said.result.next s
 stepped g c e = said_turn _ _ _ _ _ _ _ _ c.renewed-here.ensures c.said_at-said.ensures (sym e ∙ c.step_of-step.ensures)
@@ -56,13 +57,13 @@ loop-at-preserved-then-run-gt0 g c = run_on _ _ _ _ _ c.loop-at.invariant c.rene
 pub part-filled-requires : goal.part-filled-requires
 part-filled-requires g c = part_room_is _ _ _ _ _ c.loop-at.invariant (worded g (goal.at.part-filled-requires g c).After-word_part refl)
 
-pub loop-at-smaller-then-word : goal.loop-at-smaller-then-word
-loop-at-smaller-then-word c =
-    let w = c.usual_word-word.ensures c.if-word.true in
+pub loop-at-smaller-in-Some : goal.loop-at-smaller-in-Some
+loop-at-smaller-in-Some g c =
+    let w = c.in-Some.ensures in
     omega (arith, w.line.moves, w.line.ends, w.follows)
 
-pub loop-at-preserved-then-word : goal.loop-at-preserved-then-word
-loop-at-preserved-then-word g c = added _ _ _ _ _ c.loop-at.invariant (worded g (goal.at.loop-at-preserved-then-word g c).After-word_part c.record_done-mode.ensures) c.part-filled.ensures c.part-filled.auto.parts
+pub loop-at-preserved-in-Some : goal.loop-at-preserved-in-Some
+loop-at-preserved-in-Some g c = added _ _ _ _ _ c.loop-at.invariant (worded g (goal.at.loop-at-preserved-in-Some g c).After-word_part c.record_done-mode.ensures) c.part-filled.ensures c.part-filled.auto.parts
 
 pub shape_of-parts-in-Stop : goal.shape_of-parts-in-Stop
 shape_of-parts-in-Stop g c = c.loop-at.invariant.part_length
