@@ -78,9 +78,6 @@ module _ {A : Type 0} {t : List Symbol} {s : State} {cells : List ℕ} where
   pub joined_holds : {a : A} → Joined t s (Ok a) cells → Holds cells (with_symbols t s)
   joined_holds j = subst (λ (b : Bool). Holds cells (cond b (with_symbols t s) s)) (sym j.room) j.holds
 
-  pub joined_kept : {e : Reason} → Joined {A = A} t s (Err e) cells → Holds cells s
-  joined_kept j = subst (λ (b : Bool). Holds cells (cond b (with_symbols t s) s)) (sym j.room) j.holds
-
 module _ {cells : List ℕ} (g : Good cells) {x i : ℕ} (p : Position x (decode cells).symbols i) where
   abbrev t : List Symbol
   t = (decode cells).symbols
