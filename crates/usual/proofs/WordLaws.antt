@@ -22,7 +22,7 @@ use Rattle.text.specs.LineEnds.{is_legal, legal_end}
 use Rattle.text.specs.Values.{small}
 use Rattle.text.specs.Digits.{DigitsRead, FieldRead}
 use Rattle.text.specs.declared.numbers.DigitRun.{DigitRun}
-use Rattle.text.specs.declared.numbers.Number.TheVariants.{Value}
+use Rattle.std.specs.Prelude.{Some}
 use Rattle.text.proofs.ScanLaws.{past_stop, past_step, past_end, past_nearer, past_through, past_over, Scanned, scan_start, scan_stop, between_yes}
 use Rattle.text.proofs.FieldLaws.{start_least}
 use Rattle.text.proofs.LineLaws.{front_is, LF_behind, stops_LF, stops_CRLF}
@@ -128,7 +128,7 @@ module _ {at : ℕ} {file : List ℕ} {text i k : ℕ} (q : Front at file text i
 
     module _ (most : r.value ≤ 65535) (ended : r.end ≡ length file → ⊥) (b : parts k (get_or file r.end 0) ≡ true) where
       -- the digits are a field, wherever the line stops
-      field : (stop : ℕ) → r.end ≤ stop → stop ≤ length file → (4 ≤ k + 1 → stop ≡ r.end) → FieldRead s stop file (record { number = Value r.value; end = r.end })
+      field : (stop : ℕ) → r.end ≤ stop → stop ≤ length file → (4 ≤ k + 1 → stop ≡ r.end) → FieldRead s stop file (record { number = Some r.value; end = r.end })
       field stop a c last = go (eqb r.end stop) refl
         where
           inside : InFile s stop file
@@ -140,7 +140,7 @@ module _ {at : ℕ} {file : List ℕ} {text i k : ℕ} (q : Front at file text i
           value : some r.value ≡ small r.value
           value = simp (le-leb r.value 65535 most)
 
-          go : (t : Bool) → eqb r.end stop ≡ t → FieldRead s stop file (record { number = Value r.value; end = r.end })
+          go : (t : Bool) → eqb r.end stop ≡ t → FieldRead s stop file (record { number = Some r.value; end = r.end })
           go true e = line_ends inside nearer some_digit (eqb-true _ _ e) value
           go false e =
               let ne = eqb-false _ _ e in
