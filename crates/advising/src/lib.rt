@@ -2,45 +2,30 @@
 // nothing is kept of what they say.
 #![tactic(auto)]
 
-ghost use Rattle.std.specs.Prelude.{◌≤◌, ◌≡◌, length, take};
+ghost use Rattle.std.specs.Prelude.{◌≤◌, ◌≡◌, length, take, MatchOption};
 ghost use Rattle.rules.specs.Limits.{longest_file};
-ghost use Rattle.reading.specs.Lines.{told};
-ghost use Rattle.advising.specs.Whole.{LinesEnd, early_fault};
+ghost use Rattle.advising.specs.Whole.{LinesEnd, NoneFrom, IsLast, early_fault};
 
-use reading::{Place, Reached, read_on};
+use reading::{Place, read_on};
 use rules::reading::Reading;
 use steps::modes::at_start;
 use text::scan::LF;
+
+// The last LF.
+fn last_lf(bytes: &[u8]) -> Option<usize>
+    ensures { MatchOption result (NoneFrom 0 bytes.now) (λ i. IsLast bytes.now i) }
+{
+    bytes.iter().rposition(|b| *b == LF)
+}
 
 // Where the whole lines of the first n bytes end.
 pub fn lines_end(file: &[u8], n: usize) -> usize
     requires { n ≤ length file.now }
     ensures { LinesEnd file.now n result }
 {
-    let mut end = n;
-    while 0 < end {
-        if file[end - 1] == LF {
-            return end;
-        }
-        end -= 1;
-    }
-    0
-}
-
-fn tell(reached: Reached) -> Reading
-    ensures { result ≡ told reached }
-{
-    match reached {
-        Reached::Clean { mode, line } => Reading::Complete,
-        Reached::Fault {
-            number,
-            line,
-            column,
-        } => Reading::Stopped {
-            number,
-            line,
-            column,
-        },
+    match last_lf(&file[..n]) {
+        Some(last) => last + 1,
+        None => 0,
     }
 }
 
@@ -55,20 +40,14 @@ pub fn early_fault(file: &[u8], old: usize, end: usize) -> Reading
         line: 1,
         mode: at_start(),
     };
-    let before = read_on(&file[..done], start);
-    match before {
-        Reached::Fault {
-            number,
-            line,
-            column,
-        } => Reading::Complete,
-        Reached::Clean { mode, line } => tell(read_on(
-            &file[..end],
-            Place {
-                at: done,
-                line,
-                mode,
-            },
-        )),
-    }
+    // A fault that stands in the old lines has been told.
+    let Ok(before) = read_on(&file[..done], start) else {
+        return Ok(());
+    };
+    let behind = Place {
+        at: done,
+        line: before.line,
+        mode: before.mode,
+    };
+    read_on(&file[..end], behind).map(|_| ())
 }
