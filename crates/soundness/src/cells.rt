@@ -12,20 +12,15 @@ use state::layout::{
     COUNT, DEFINED, FROZEN, MARK, NAMES, NEXT, PLAIN, SIZE, SPARE, TAGS, TEXTS, UNPLACED, VALUES,
 };
 
+#[tactic(auto, unfolding(crate::specs::Checks::header_sound))]
 pub fn header_sound(state: &[u64]) -> bool
     requires { length state.now ≡ size }
     ensures { result ≡ header_sound state.now }
 {
-    if (MOST_SYMBOLS as u64) < state[COUNT] {
-        return false;
-    }
-    if (PROGRAM_WORDS as u64) < state[NEXT] {
-        return false;
-    }
-    if FROZEN < state[MARK] {
-        return false;
-    }
-    state[SPARE] == 0
+    state[COUNT] <= MOST_SYMBOLS as u64
+        && state[NEXT] <= PROGRAM_WORDS as u64
+        && state[MARK] <= FROZEN
+        && state[SPARE] == 0
 }
 
 // Are the cells from one on zero?
@@ -52,7 +47,10 @@ fn value_sound(v: u64) -> bool
 fn each_symbol_sound(names: &[u64], values: &[u64]) -> bool
     ensures { result ≡ list_all (λ s. is_packed s.0 && value_sound s.1) (zip names.now values.now) }
 {
-    names.iter().zip(values).all(|(name, value)| is_packed(*name) && value_sound(*value))
+    names
+        .iter()
+        .zip(values)
+        .all(|(name, value)| is_packed(*name) && value_sound(*value))
 }
 
 pub fn symbols_sound(state: &[u64], n: usize) -> bool
@@ -73,11 +71,11 @@ fn unlike_from(names: &[u64], x: u64, i: usize) -> bool
 // The filter has a flag for each remainder of a name.
 const REMAINDERS: u64 = 3989;
 
-const FILTER: usize = 4096;
+type Filter = [u8; 4096];
 
 // Is the name of symbol i that of no later one? The filter has met the remainders of the names behind it, and meets that of this
 // one. Only where it had met it already the names behind are looked through.
-fn stands_alone(state: &[u64], i: usize, n: usize, met: &mut [u8]) -> bool
+fn stands_alone(state: &[u64], i: usize, n: usize, met: &mut Filter) -> bool
     requires state_len { length state.now ≡ size }
     requires i_lt_n { (i < n) × (n ≤ most_symbols) }
     requires has_met { HasMet state.now n (i + 1) met.old }
@@ -98,7 +96,7 @@ pub fn names_differ(state: &[u64], n: usize) -> bool
     requires n_le_most_symbols { n ≤ most_symbols }
     ensures { result ≡ names_differ state.now n }
 {
-    let mut met = [0u8; FILTER];
+    let mut met = [0; 4096];
     for i in (0..n).rev() {
         if !stands_alone(state, i, n, &mut met) {
             return false;
@@ -123,7 +121,10 @@ fn each_word_sound(texts: &[u64], tags: &[u64], n: usize) -> bool
     requires { n ≤ most_symbols }
     ensures { result ≡ list_all (λ w. word_sound n w.0 w.1) (zip texts.now tags.now) }
 {
-    texts.iter().zip(tags).all(|(text, tag)| word_sound(*text, *tag, n))
+    texts
+        .iter()
+        .zip(tags)
+        .all(|(text, tag)| word_sound(*text, *tag, n))
 }
 
 pub fn words_sound(state: &[u64], n: usize) -> bool
