@@ -14,12 +14,10 @@ pub fn put_bytes(feed: &mut [u64], n: usize, piece: &[u8])
     requires feed_value { feed.old ≡ cells_with (get_or feed.old 0 0) (bytes_in feed.old n) }
     ensures { feed.new ≡ cells_with (get_or feed.old 0 0) (bytes_in feed.old n ++ piece.now) }
 {
-    let mut i = 0;
-    while i < piece.len() {
+    for (i, byte) in piece.iter().enumerate() {
         let k = n + i;
         let cell = BYTES + k / 8;
-        feed[cell] = feed[cell] + piece[i] as u64 * power(k % 8);
-        i += 1;
+        feed[cell] += *byte as u64 * power(k % 8);
     }
 }
 
@@ -52,9 +50,7 @@ pub fn unpack(feed: &[u64], n: usize, file: &mut [u8])
     requires file_value { file.old ≡ zeros file_room }
     ensures { file.new ≡ unpacked feed.now (8 * n) }
 {
-    let mut i = 0;
-    while i < n {
+    for i in 0..n {
         spread(feed[BYTES + i], file, 8 * i);
-        i += 1;
     }
 }
