@@ -9,7 +9,7 @@ ghost use Rattle.soundness.specs.Checks.{header_sound, zero_between, value_sound
 use crate::name::is_packed;
 use rules::limits::{LARGEST_NUMBER, MOST_SYMBOLS, PROGRAM_WORDS};
 use state::layout::{
-    COUNT, DEFINED, FROZEN, MARK, NAMES, NEXT, PLAIN, SIZE, SPARE, TAGS, TEXTS, UNPLACED, VALUES,
+    COUNT, DEFINED, MARK, Mark, NAMES, NEXT, PLAIN, SIZE, SPARE, TAGS, TEXTS, UNPLACED, VALUES,
 };
 
 #[tactic(auto, unfolding(crate::specs::Checks::header_sound))]
@@ -19,7 +19,7 @@ pub fn header_sound(state: &[u64]) -> bool
 {
     state[COUNT] <= MOST_SYMBOLS as u64
         && state[NEXT] <= PROGRAM_WORDS as u64
-        && state[MARK] <= FROZEN
+        && state[MARK] <= Mark::Frozen as u64
         && state[SPARE] == 0
 }
 

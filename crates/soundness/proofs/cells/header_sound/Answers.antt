@@ -3,6 +3,6 @@ use Rattle.std.proofs.lemmas.Grind.{common_steps}
 use Rattle.soundness.specs.Checks.{header_sound}
 use Rattle.soundness.proofs.cells.header_sound.Goals as goal
 
-pub returns-then-state-le-FROZEN : goal.returns-then-state-le-FROZEN
+pub returns-then-state-3 : goal.returns-then-state-3
 unfolding header_sound
-returns-then-state-le-FROZEN c = grind (arith, common_steps)
+returns-then-state-3 c = grind (arith, common_steps)
