@@ -1,8 +1,7 @@
 -- How the functions that write the image say what they wrote.
-use Rattle.std.specs.Prelude.{◌≡◌, ℕ, ◌+◌, ◌≢◌, List, ◌∷◌, ◌++◌, length, take, drop, slice_index_or}
+use Rattle.std.specs.Prelude.{◌≡◌, ℕ, ◌+◌, List, ◌∷◌, ◌++◌, length, take, drop, slice_index_or}
 use Rattle.rules.specs.Image.{two, record_of, records_from}
 use Rattle.rules.specs.State.{State, unplaced}
-use Rattle.state.specs.Words.{Tagged}
 use Rattle.image.specs.declared.Output.{Output as Cursor}
 
 -- the output with these bytes at a position, all else as it was
@@ -33,8 +32,3 @@ pub record Puts (piece : List ℕ) (before after : Cursor) : Type 0 where
   pub behind : after.at ≡ before.at + length piece
   pub front : take after.at after.bytes.now ≡ take before.at before.bytes.now ++ piece
   pub rest : drop after.at after.bytes.now ≡ drop after.at before.bytes.now
-
--- the tag of a placed word
-pub record PlacedTag (s : State) (a tag : ℕ) : Type 0 where
-  pub is : Tagged s a tag
-  pub some_word : tag ≢ 0

@@ -1,17 +1,17 @@
 // END's output: a record for each placed word, then the end record.
 #![tactic(auto)]
 
-ghost use Rattle.std.specs.Prelude.{◌≡◌, ◌+◌, ◌<◌, ◌≤◌, ◌∷◌, length};
+ghost use Rattle.std.specs.Prelude.{Some, ◌≡◌, ◌+◌, ◌<◌, ◌≤◌, ◌∷◌, length};
 ghost use Rattle.rules.specs.Limits.{program_words};
 ghost use Rattle.rules.specs.Image.{two, quarters, word_record, completed, image_of};
 ghost use Rattle.state.specs.Layout.{decode};
 ghost use Rattle.state.specs.Good.{Good};
-ghost use Rattle.image.specs.Output.{end_bytes, record_at, words_of, Written, Puts, PlacedTag};
+ghost use Rattle.state.specs.Words.{Tagged};
+ghost use Rattle.image.specs.Output.{end_bytes, record_at, words_of, Written, Puts};
 
 use rules::limits::PROGRAM_WORDS;
-use state::layout::{PLAIN, REFERENCE, UNPLACED};
 use state::table::{undefined_count, value_of};
-use state::words::{high, is_placed, tag, text};
+use state::words::{Placed, high, is_placed, tag, text};
 
 // The kinds of records, and their lengths.
 const WORD_RECORD: u8 = 0x57;
@@ -31,17 +31,18 @@ fn complete(text: u64, value: u16) -> u64
     text / 65536 * 65536 + fourth.wrapping_add(value) as u64
 }
 
-// A placed word as the image has it, from its tag.
-fn linked_word(state: &[u64], address: usize, tag: u64) -> u64
+// A placed word as the image has it.
+#[tactic(auto, using(crate::proofs::RecordLaws::record_plain, crate::proofs::RecordLaws::record_linked))]
+fn linked_word(state: &[u64], address: usize, placed: Placed) -> u64
     requires good { Good state.now }
-    requires address_lt_program_words { (address < program_words) × PlacedTag (decode state.now) address tag }
+    requires address_lt_program_words { (address < program_words) × Tagged (decode state.now) address (Some placed) }
     ensures { record_at (decode state.now) address ≡ word_record address result }
 {
     let t = text(state, address);
-    if tag == PLAIN {
-        return t;
+    match placed {
+        Placed::Plain => t,
+        Placed::Refers(symbol) => complete(t, value_of(state, symbol)),
     }
-    complete(t, value_of(state, (tag - REFERENCE) as usize))
 }
 
 // The output, and the position up to which it is written.
@@ -82,14 +83,14 @@ impl Output<'_> {
     }
 
     // The record of an address, if a word is placed there.
+    #[tactic(auto, using(crate::proofs::RecordLaws::record_none, crate::proofs::RecordLaws::word_length, crate::proofs::OutputLaws::puts_nothing))]
     fn put_record(&mut self, state: &[u64], address: usize)
         requires good { Good state.now }
         requires address_lt_program_words { (address < program_words) × (self.old.at + length (record_at (decode state.now) address) ≤ length self.old.bytes.now) }
         ensures { Puts (record_at (decode state.now) address) self.old self.new }
     {
-        let t = tag(state, address);
-        if t != UNPLACED {
-            let word = linked_word(state, address, t);
+        if let Some(placed) = tag(state, address) {
+            let word = linked_word(state, address, placed);
             self.put_word(address as u16, word);
         }
     }
