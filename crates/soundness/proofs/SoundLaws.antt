@@ -22,7 +22,7 @@ use Rattle.state.proofs.RegionLaws.{each_region, each_of_four}
 use Rattle.state.proofs.LayoutLaws.{encode_name, encode_value, encode_text, encode_tag, encode_long, count_is, words_long, symbol_is_lem, word_is, unused_name, unused_value}
 use Rattle.state.proofs.HeaderLaws.{mark_cell_lem, mark_is}
 use Rattle.state.proofs.SymbolLaws.{value_large, value_small}
-use Rattle.state.proofs.WordLaws.{text_is, tag_is}
+use Rattle.state.proofs.WordLaws.{text_is, tag_is, tag_small_lem}
 use Rattle.state.proofs.LentLaws.{lent_wrong, lent_damaged, lent_holding, sound_good, sound_state, sound_symbols, cells_sound}
 use Rattle.soundness.specs.Checks.{refused_by, Refusal, header_sound, zero_at, zero_between, value_sound, symbol_sound_at, symbols_sound, names_differ, word_sound_at, words_sound}
 use Rattle.soundness.proofs.CheckLaws.{value_back, symbol_sound, sound_value_lem, text_back, tag_back, word_sound_lem, sound_word_lem, names_differ_lem}
@@ -205,8 +205,7 @@ module _ (cells : List ℕ) where
     words_from =
         range_all (word_sound_at cells n) 0 4096
         (λ a l u.
-        let t = tag_is g a u in
-        sound_word_lem n (get_or cells (516 + a) 0) (get_or cells (4612 + a) 0) (get_or d.words a unplaced) (text_is g a u) t.is (omega (arith, t.inside, count_is cells)))
+        sound_word_lem n (get_or cells (516 + a) 0) (get_or cells (4612 + a) 0) (get_or d.words a unplaced) (text_is g a u) (tag_is g a u) (omega (arith, tag_small_lem g a u, count_is cells)))
 
 -- ---- what is lent, as the code tells it
 

@@ -15,7 +15,7 @@ use Rattle.state.specs.Good.{Good}
 use Rattle.state.specs.Words.{HighBelow}
 use Rattle.state.proofs.BoolLaws.{same_test}
 use Rattle.state.proofs.ListLaws.{map_last, range_last, range_end, length_map_range}
-use Rattle.state.proofs.WordLaws.{placed_is, tag_is}
+use Rattle.state.proofs.WordLaws.{placed_is, tag_small_lem}
 
 -- ---- a test of a word
 
@@ -87,10 +87,9 @@ module _ (cells : List ℕ) (a : ℕ) where
 
 pub tag_small : {cells : List ℕ} → Good cells → (i : ℕ) → 4612 ≤ i → i < 8708 → get_or cells i 0 < 258
 tag_small {cells} g i l h =
-    let t = tag_is g (i - 4612) (omega arith) in
     let same : 4612 + (i - 4612) ≡ i = omega arith in
     let e = ap (λ (k : ℕ). get_or cells k 0) same in
-    omega (arith, t.inside, g.tidy.few, e)
+    omega (arith, tag_small_lem g (i - 4612) (omega arith), g.tidy.few, e)
 
 -- no word at a
 not_there : (cells : List ℕ) (a b k : ℕ) → b ≡ a + 1 → k ≡ 4612 + a → get_or cells k 0 ≡ 0 → HighBelow cells b → HighBelow cells a

@@ -1,9 +1,10 @@
 -- The table of symbols in cells: the loops that go through it.
+use Rattle.std.specs.Prelude.{Some, None}
 use Prim.Native.Nat.{ℕ, ◌+◌, ◌-◌, ◌≤◌, ◌<◌}
 use mathlib.Core.Bool.{true, ◌||◌}
 use mathlib.Core.List.{List, [], ◌∷◌, map}
 use mathlib.Core.Logic.{◌≢◌}
-use mathlib.Core.Path.{◌≡◌, sym, ap, ◌∙◌}
+use mathlib.Core.Path.{◌≡◌, refl, sym, ap, ◌∙◌}
 use native.Mathlib.Nat.{sub-zero}
 use native.Mathlib.Omega.{arith}
 use borrow.Author.Tests.{eq-eqb, ne_eqb, leb-true}
@@ -13,7 +14,7 @@ use Rattle.rules.specs.State.{undefined_only}
 use Rattle.rules.specs.Image.{value_of}
 use Rattle.state.specs.Layout.{value_cell, symbol_in, symbols_from, decode}
 use Rattle.state.specs.Good.{sound_value, Good}
-use Rattle.state.specs.Table.{no_symbol, listed, undefined_position}
+use Rattle.state.specs.Table.{no_symbol, Listing, undefined_position}
 use Rattle.state.proofs.BoolLaws.{first}
 use Rattle.state.proofs.ListLaws.{range_step, range_end, all_at}
 use Rattle.state.proofs.LayoutLaws.{count_is, symbol_is_lem, encode_value}
@@ -84,11 +85,11 @@ module _ {cells : List ℕ} (g : Good cells) (i : ℕ) (h : i < get_or cells 0 0
       omega (arith, leb-true v 65535 t)
 
   -- a symbol as it is told
-  pub listed_undefined : get_or cells (260 + i) 0 ≡ 0 → listed (get_or (decode cells).symbols i no_symbol) ≡ record { name = get_or cells (4 + i) 0; value = 0; defined = 0 }
-  listed_undefined e = rw (symbol_is_lem cells i h, e)
+  pub listing_undefined : get_or cells (260 + i) 0 ≡ 0 → Listing (get_or (decode cells).symbols i no_symbol) (record { name = get_or cells (4 + i) 0; value = None })
+  listing_undefined e = rw (symbol_is_lem cells i h, e) (record { name = refl; value = (refl, refl) })
 
-  pub listed_defined : get_or cells (260 + i) 0 ≢ 0 → listed (get_or (decode cells).symbols i no_symbol) ≡ record { name = get_or cells (4 + i) 0; value = get_or cells (260 + i) 0 - 65536; defined = 1 }
-  listed_defined e = rw (symbol_is_lem cells i h, ne_eqb _ _ e)
+  pub listing_defined : get_or cells (260 + i) 0 ≢ 0 → Listing (get_or (decode cells).symbols i no_symbol) (record { name = get_or cells (4 + i) 0; value = Some (get_or cells (260 + i) 0 - 65536) })
+  listing_defined e = rw (symbol_is_lem cells i h, ne_eqb _ _ e) (record { name = refl; value = (refl, refl) })
 
   -- what it adds to a word that refers to it
   pub value_undefined : get_or cells (260 + i) 0 ≡ 0 → value_of (decode cells).symbols i ≡ 0

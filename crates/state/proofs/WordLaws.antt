@@ -1,17 +1,20 @@
 -- The program words in cells.
+use Rattle.std.specs.Prelude.{Some, None}
 use Prim.Native.Nat.{ℕ, ◌+◌, ◌-◌, ◌^◌, ◌≤◌, ◌<◌}
 use mathlib.Core.Bool.{Bool, true, false, cond, not}
 use mathlib.Core.List.{List}
-use mathlib.Core.Path.{◌≡◌, refl, sym, ap, ◌∙◌}
+use mathlib.Core.Logic.{◌≢◌}
+use mathlib.Core.Path.{◌≡◌, refl, sym, ap, subst, ◌∙◌}
 use native.Mathlib.Omega.{arith}
-use borrow.Author.Tests.{lt-ltb, ltb-true}
+use borrow.Author.Tests.{lt-ltb, ltb-true, eq-eqb, ne_eqb}
 use lib.ListN.{length, get_or, set, length-map, length-set, get_or-eq_default}
 use lib.Seq.{set_out}
 use lib.Dec.{eqb, ltb}
 use Rattle.rules.specs.State.{Word, unplaced, plain, refers, is_placed, sound_word, State}
-use Rattle.state.specs.Layout.{name_cell, value_cell, text_cell, tag_cell, header, names, values, texts, tags, encode, word_of, decode}
+use Rattle.state.specs.Layout.{name_cell, value_cell, text_cell, tag_cell, header, names, values, texts, tags, encode, word_of, word_in, decode}
 use Rattle.state.specs.Good.{Good, Holds, with_words}
-use Rattle.state.specs.Words.{Tagged}
+use Rattle.state.specs.declared.words.Placed.TheVariants.{Plain, Refers}
+use Rattle.state.specs.Words.{tag_of, WithinTable, Tagged}
 use Rattle.state.proofs.BoolLaws.{both, second}
 use Rattle.state.proofs.ListLaws.{map_set, all_at, all_set}
 use Rattle.state.proofs.RegionLaws.{flat, set_text, set_tag}
@@ -40,23 +43,56 @@ module _ {cells : List ℕ} (g : Good cells) (a : ℕ) where
       ap (λ (l : List ℕ). get_or l (516 + a) 0) g.encoded
       ∙ encode_text (decode cells) g.tidy.few g.tidy.full a h
 
-  tag_inside : (w : Word) → sound_word (length (decode cells).symbols) w ≡ true → tag_cell w < 2 + length (decode cells).symbols
+  tag_inside : (w : Word) → sound_word (length (decode cells).symbols) w ≡ true → WithinTable (length (decode cells).symbols) (tag_of w)
   unfolding sound_word
-  tag_inside unplaced e = omega arith
-  tag_inside (plain x) e = omega arith
+  tag_inside unplaced e = tt
+  tag_inside (plain x) e = tt
   tag_inside (refers x i) e =
-      let h : i < length (decode cells).symbols = ltb-true _ _ (second (ltb x (2 ^ 64)) (ltb i (length (decode cells).symbols)) e) in
-      omega arith
+      ltb-true _ _ (second (ltb x (2 ^ 64)) (ltb i (length (decode cells).symbols)) e)
 
-  pub tag_is : a < 4096 → Tagged (decode cells) a (get_or cells (4612 + a) 0)
-  tag_is h =
-      let e : get_or cells (4612 + a) 0 ≡ tag_cell (get_or (decode cells).words a unplaced) =
-      ap (λ (l : List ℕ). get_or l (4612 + a) 0) g.encoded
-      ∙ encode_tag (decode cells) g.tidy.few g.tidy.full a in
-      let w : tag_cell (get_or (decode cells).words a unplaced) < 2 + length (decode cells).symbols =
-      tag_inside (get_or (decode cells).words a unplaced)
-      (all_at (sound_word (length (decode cells).symbols)) (decode cells).words unplaced g.tidy.words a (omega (arith, g.tidy.full))) in
-      record { is = e; inside = omega arith }
+  tag_below : (w : Word) → WithinTable (length (decode cells).symbols) (tag_of w) → tag_cell w < 2 + length (decode cells).symbols
+  tag_below unplaced e = omega arith
+  tag_below (plain x) e = omega arith
+  tag_below (refers x i) e = omega arith
+
+  module _ (h : a < 4096) where
+    abbrev there : Word
+    there = get_or (decode cells).words a unplaced
+
+    pub tag_is : get_or cells (4612 + a) 0 ≡ tag_cell there
+    tag_is =
+        ap (λ (l : List ℕ). get_or l (4612 + a) 0) g.encoded
+        ∙ encode_tag (decode cells) g.tidy.few g.tidy.full a
+
+    tag_within : WithinTable (length (decode cells).symbols) (tag_of there)
+    tag_within =
+        tag_inside there
+        (all_at (sound_word (length (decode cells).symbols)) (decode cells).words unplaced g.tidy.words a (omega (arith, g.tidy.full)))
+
+    pub tag_small_lem : get_or cells (4612 + a) 0 < 2 + length (decode cells).symbols
+    tag_small_lem = omega (arith, tag_is, tag_below there tag_within)
+
+    -- by its cell
+    tagged : Tagged (decode cells) a (tag_of (word_in cells a))
+    tagged =
+        record {
+          is = ap tag_of (sym (word_is cells a h));
+          inside = subst (λ (w : Word). WithinTable (length (decode cells).symbols) (tag_of w)) (word_is cells a h) tag_within;
+        }
+
+    pub tagged_unplaced : get_or cells (4612 + a) 0 ≡ 0 → Tagged (decode cells) a None
+    unfolding word_of
+    tagged_unplaced e = rw (eq-eqb _ _ e) at tagged
+
+    pub tagged_plain : get_or cells (4612 + a) 0 ≡ 1 → Tagged (decode cells) a (Some Plain)
+    unfolding word_of
+    tagged_plain e =
+        let n : get_or cells (4612 + a) 0 ≢ 0 = omega arith in
+        rw (ne_eqb _ _ n, eq-eqb _ _ e) at tagged
+
+    pub tagged_refers : get_or cells (4612 + a) 0 ≢ 0 → get_or cells (4612 + a) 0 ≢ 1 → Tagged (decode cells) a (Some (Refers (get_or cells (4612 + a) 0 - 2)))
+    unfolding word_of
+    tagged_refers e d = rw (ne_eqb _ _ e, ne_eqb _ _ d) at tagged
 
   -- ---- storing
 

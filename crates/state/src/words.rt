@@ -51,13 +51,24 @@ pub fn text(state: &[u64], address: usize) -> u64
     state[TEXTS + address]
 }
 
-// UNPLACED, PLAIN, or REFERENCE + i for a word that refers to symbol i.
-pub fn tag(state: &[u64], address: usize) -> u64
+// What the word placed at an address is: a plain one, or one that refers to a symbol.
+#[derive(Clone, Copy)]
+pub enum Placed {
+    Plain,
+    Refers(usize),
+}
+
+// None where no word is placed.
+pub fn tag(state: &[u64], address: usize) -> Option<Placed>
     requires good { Good state.now }
     requires address_lt_program_words { address < program_words }
     ensures { Tagged (decode state.now) address result }
 {
-    state[TAGS + address]
+    match state[TAGS + address] {
+        UNPLACED => None,
+        PLAIN => Some(Placed::Plain),
+        tag => Some(Placed::Refers((tag - REFERENCE) as usize)),
+    }
 }
 
 // The highest address that refers to a symbol, 65,535 if none.

@@ -1,4 +1,5 @@
 use Rattle.state.proofs.SymbolLaws.{position_of_first, position_of_later, position_past_defined, position_of_none}
+use Rattle.state.proofs.LayoutLaws.{count_is}
 use Rattle.state.specs.Layout.{decode}
 use native.Mathlib.Omega.{arith}
 use mathlib.Core.Path.{refl}
@@ -10,7 +11,7 @@ unfolding decode
 loop-i-init c = (omega arith, refl, omega arith)
 
 pub returns-then-more-eq0 : goal.returns-then-more-eq0
-returns-then-more-eq0 c = omega (arith, position_of_first c.args.state.now _ _ (omega arith) c.if-state-i-eq0.true c.if-more-eq0.true)
+returns-then-more-eq0 c = omega (arith, count_is c.args.state.now, position_of_first c.args.state.now _ _ (omega arith) c.if-state-i-eq0.true c.if-more-eq0.true)
 
 pub loop-i-preserved : goal.loop-i-preserved
 loop-i-preserved c =
@@ -20,4 +21,4 @@ loop-i-preserved c =
     ]
 
 pub returns : goal.returns
-returns c = omega (arith, position_of_none c.args.state.now c.loop-i.i c.loop-i.more (omega arith))
+returns c = omega (arith, count_is c.args.state.now, position_of_none c.args.state.now c.loop-i.i c.loop-i.more (omega arith))
