@@ -12,7 +12,7 @@ use Rattle.state.specs.Layout.{lent}
 use Rattle.soundness.specs.Checks.{refused_by, Refusal}
 
 -- no reason is DONE
-reason_refuses : (e : Reason) → reason_number e ≢ 0
+pub reason_refuses : (e : Reason) → reason_number e ≢ 0
 reason_refuses Buffer = omega arith
 reason_refuses Damaged = omega arith
 reason_refuses Reset = omega arith
