@@ -3,3 +3,4 @@ pub mod FitLaws
 pub mod CellLaws
 pub mod RowLaws
 pub mod HeadLaws
+pub mod PairLaws

@@ -1,3 +1,4 @@
 pub mod Tables
 pub mod Cells
 pub mod Heads
+pub mod Iter

@@ -1,9 +1,13 @@
 -- What a file holds, as two tables of 64-bit cells, two cells an element. The reading fills them, and the walk goes over them.
 -- Parts: the parts of all modules, one after the other. Rows: a row for each module and each section, written when it closes:
 -- a module with its range of parts, a section with its range of rows. Every cell decodes to something.
-use Rattle.std.specs.Prelude.{ℕ, zero, suc, ◌+◌, ◌-◌, ◌*◌, ◌/◌, ◌%◌, ◌≤◌, true, false, cond, List, [], ◌∷◌, get_or, take, drop, eqb, ◌≡◌}
+use Rattle.std.specs.Prelude.{ℕ, zero, suc, ◌+◌, ◌-◌, ◌*◌, ◌/◌, ◌%◌, ◌≤◌, true, false, cond, List, [], ◌∷◌, get_or, take, drop, eqb, ◌≡◌, Option, None, Some}
 use Rattle.rules.specs.Line.{entry, code_word}
 use Rattle.rules.specs.Reading.{Module, module_at, Item, free, section}
+use Rattle.tables.specs.declared.parts.PartKind.{PartKind}
+use Rattle.tables.specs.declared.parts.PartKind.TheVariants.{NoPart, AbsoluteEntry, RelocatedEntry, External as TheExternal, Block, PlainWord, Reference, UnreadWord}
+use Rattle.tables.specs.declared.rows.RowKind.{RowKind}
+use Rattle.tables.specs.declared.rows.RowKind.TheVariants.{Free, Member, Section as TheSection}
 use Rattle.tables.specs.declared.rows.Section.{Section}
 use Rattle.rules.specs.declared.line.Relocation.{Relocation}
 use Rattle.rules.specs.declared.line.Relocation.TheVariants.{Plain, External, Unread}
@@ -39,6 +43,17 @@ reference = 6
 
 abbrev pub unread_word : ℕ
 unread_word = 7
+
+-- the number of a kind
+abbrev pub part_number : PartKind → ℕ
+part_number NoPart = 0
+part_number AbsoluteEntry = absolute_entry
+part_number RelocatedEntry = relocated_entry
+part_number TheExternal = external
+part_number Block = block
+part_number PlainWord = plain_word
+part_number Reference = reference
+part_number UnreadWord = unread_word
 
 abbrev pub head_of : ℕ → ℕ → ℕ
 head_of kind numbers = kind + 8 * numbers
@@ -115,6 +130,17 @@ member_row = 2
 
 abbrev pub section_row : ℕ
 section_row = 3
+
+-- the number of a kind
+abbrev pub kind_number : RowKind → ℕ
+kind_number Free = free_row
+kind_number Member = member_row
+kind_number TheSection = section_row
+
+-- the number that a row has: 0 where it has no kind
+abbrev pub kind_told : Option RowKind → ℕ
+kind_told None = 0
+kind_told (Some k) = kind_number k
 
 -- ---- room for the parts and the rows of any file of 65,536 bytes: how many, and their cells
 

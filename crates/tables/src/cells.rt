@@ -11,10 +11,7 @@ pub const ROW_ROOM: usize = 14562;
 pub fn cell(cells: &[u64], i: usize) -> u64
     ensures { result ≡ get_or cells.now i 0 }
 {
-    if i < cells.len() {
-        return cells[i];
-    }
-    0
+    cells.get(i).copied().unwrap_or(0)
 }
 
 // The first cell of element i.

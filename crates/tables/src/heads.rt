@@ -3,27 +3,25 @@ ghost use Rattle.std.specs.Prelude.{◌≤◌, cond, ◌≡◌};
 ghost use Rattle.rules.specs.Limits.{program_words};
 ghost use Rattle.tables.specs.Heads.{is_entry, is_relocated, value_of, is_external, block_end, is_word, is_reference, address_of, argument_of};
 
-use crate::parts::{
-    ABSOLUTE_ENTRY, ADDRESSES, BLOCK, EXTERNAL, KINDS, NUMBERS, REFERENCE, RELOCATED_ENTRY,
-};
+use crate::parts::{ADDRESSES, KINDS, NUMBERS, PartKind, kind_of};
 
 pub fn is_entry(head: u64) -> bool
     ensures { result ≡ is_entry head }
 {
-    let kind = head % KINDS;
-    if kind == ABSOLUTE_ENTRY {
-        return true;
-    }
-    kind == RELOCATED_ENTRY
+    matches!(
+        kind_of(head),
+        PartKind::AbsoluteEntry | PartKind::RelocatedEntry
+    )
 }
 
 pub fn is_relocated(head: u64) -> bool
     ensures { result ≡ is_relocated head }
 {
-    head % KINDS == RELOCATED_ENTRY
+    kind_of(head) == PartKind::RelocatedEntry
 }
 
 // Only a relocated entry moves with the base.
+#[tactic(auto, unfolding(crate::specs::Heads::value_of))]
 pub fn entry_value(head: u64, base: usize) -> usize
     requires { base ≤ program_words }
     ensures { result ≡ value_of base head }
@@ -38,28 +36,16 @@ pub fn entry_value(head: u64, base: usize) -> usize
 pub fn is_external(head: u64) -> bool
     ensures { result ≡ is_external head }
 {
-    head % KINDS == EXTERNAL
-}
-
-// 1 for an external, to count them by.
-pub fn external_in(head: u64) -> usize
-    ensures { result ≡ cond (is_external head) 1 0 }
-{
-    if is_external(head) {
-        return 1;
-    }
-    0
+    kind_of(head) == PartKind::External
 }
 
 // The end of a block's words; 0 where it has none, and for any other part.
+#[tactic(auto, unfolding(crate::specs::Heads::block_end))]
 pub fn block_end(head: u64) -> usize
     ensures { result ≡ block_end head }
 {
-    if head % KINDS != BLOCK {
-        return 0;
-    }
     let count = head / KINDS / NUMBERS % NUMBERS;
-    if count == 0 {
+    if kind_of(head) != PartKind::Block || count == 0 {
         return 0;
     }
     (head / KINDS % NUMBERS + count) as usize
@@ -68,13 +54,16 @@ pub fn block_end(head: u64) -> usize
 pub fn is_word(head: u64) -> bool
     ensures { result ≡ is_word head }
 {
-    BLOCK < head % KINDS
+    matches!(
+        kind_of(head),
+        PartKind::PlainWord | PartKind::Reference | PartKind::UnreadWord
+    )
 }
 
 pub fn is_reference(head: u64) -> bool
     ensures { result ≡ is_reference head }
 {
-    head % KINDS == REFERENCE
+    kind_of(head) == PartKind::Reference
 }
 
 // A word's address from the base of its module.

@@ -8,5 +8,6 @@
 
 pub mod cells;
 pub mod heads;
+pub mod iter;
 pub mod parts;
 pub mod rows;
