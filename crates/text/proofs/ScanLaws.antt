@@ -13,7 +13,7 @@ use lib.Dec.{leb}
 use borrow.Author.Tests.{le-leb, lt-leb}
 use Rattle.rules.specs.Text.{between, all}
 use Rattle.rules.proofs.TestLaws.{all_first, all_rest, all_at}
-use Rattle.text.specs.Scan.{part, run, past, Found}
+use Rattle.text.specs.Scan.{part, run, past, InFile, Found}
 
 -- ---- parts
 
@@ -168,6 +168,25 @@ module _ (p q : ℕ → Bool) (h : (b : ℕ) → q b ≡ true → p b ≡ true) 
       let k : i + (s - i) ≡ s = omega arith in
       ap (λ (j : ℕ). past p j e l) (sym k)
       ∙ over (s - i) i e l (omega arith) m (ap (λ (j : ℕ). all q (part i j l)) k ∙ a)
+
+-- the first n bytes pass, and the one behind them does not
+module _ (p : ℕ → Bool) where
+  run_is : (l : List ℕ) (n : ℕ) → n ≤ length l → ((k : ℕ) → k < n → p (get_or l k 0) ≡ true) → (n < length l → p (get_or l n 0) ≡ false) → run p l ≡ n
+  unfolding run
+  run_is [] n h b s = omega arith
+  run_is (x ∷ xs) zero h b s = run_no p x xs (s (omega arith))
+  run_is (x ∷ xs) (suc n) h b s = run_yes p x xs (b 0 (omega arith)) ∙ ap suc (run_is xs n (omega arith) (λ k g. b (suc k) (omega arith)) (λ g. s (omega arith)))
+
+  pub past_is :
+      {at e n : ℕ} {l : List ℕ} → InFile at e l → n ≤ length (part at e l) → ((k : ℕ) → k < n → p (get_or (part at e l) k 0) ≡ true)
+      → (n < length (part at e l) → p (get_or (part at e l) n 0) ≡ false) → Found at e (past p at e l) (at + n)
+  unfolding past
+  past_is {at} {e} {n} {l} i h b s =
+      record {
+        is = ap (λ (k : ℕ). at + k) (sym (run_is (part at e l) n h b s));
+        least = omega arith;
+        most = omega (arith, length_part at e l i.size, i.order);
+      }
 
 -- what the loop of a scan keeps at the position i that it has come to
 pub record Scanned (p : ℕ → Bool) (at e : ℕ) (l : List ℕ) (i : ℕ) : Type 0 where

@@ -3,21 +3,14 @@ ghost use Rattle.std.specs.Prelude.{◌≡◌};
 ghost use Rattle.text.specs.Scan.{InFile, Found};
 ghost use Rattle.text.specs.FieldBounds.{field_start, NextField};
 
-use crate::scan::{SPACE, find_byte};
+use crate::scan::{SPACE, find_byte, front};
 
 // Where the next field of the line starts: `stop` where there is none.
 pub fn field_start(file: &[u8], at: usize, stop: usize) -> usize
     requires { InFile at stop file.now }
     ensures { Found at stop (field_start at stop file.now) result }
 {
-    let mut i = at;
-    while i < stop {
-        if file[i] != SPACE {
-            return i;
-        }
-        i += 1;
-    }
-    i
+    at + front(&file[at..stop], |b| b == SPACE)
 }
 
 // The next field of the line, as that part of the file: empty where there is none.

@@ -4,7 +4,7 @@ ghost use Rattle.rules.specs.Limits.{longest_line};
 ghost use Rattle.text.specs.Scan.{InFile, Found};
 ghost use Rattle.text.specs.LineEnds.{legal_end, front_of, NextLine};
 
-use crate::scan::{CR, LF, SPACE, TILDE, find_byte};
+use crate::scan::{CR, LF, SPACE, TILDE, find_byte, front};
 use rules::limits::LONGEST_LINE;
 
 // Where a line stops, its end left out, and where the next one starts; and how many legal bytes stand at the line's front, at
@@ -21,18 +21,7 @@ fn legal_end(file: &[u8], at: usize, end: usize) -> usize
     requires { InFile at end file.now }
     ensures { Found at end (legal_end at end file.now) result }
 {
-    let mut i = at;
-    while i < end {
-        let byte = file[i];
-        if byte < SPACE {
-            return i;
-        }
-        if TILDE < byte {
-            return i;
-        }
-        i += 1;
-    }
-    i
+    at + front(&file[at..end], |b| SPACE <= b && b <= TILDE)
 }
 
 fn at_most_a_line(n: usize) -> usize

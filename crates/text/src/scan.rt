@@ -1,5 +1,5 @@
 // Scanning over the file.
-ghost use Rattle.std.specs.Prelude.{◌≡◌};
+ghost use Rattle.std.specs.Prelude.{◌≡◌, ◌≤◌, ◌<◌, ℕ, true, false, length, slice_index};
 ghost use Rattle.text.specs.Scan.{InFile, Found, is_not, past};
 
 pub const LF: u8 = 10;
@@ -11,19 +11,27 @@ pub const SPACE: u8 = 32;
 // The last byte that a line may have.
 pub const TILDE: u8 = 126;
 
+// How many bytes at the front pass the test.
+pub fn front<F: Fn(u8) -> bool>(bytes: &[u8], passes: F) -> usize
+    requires { F.IsAlwaysCallable passes }
+    ensures within { result ≤ length bytes.now }
+    ensures before { (k : ℕ) → k < result → F.post passes (slice_index bytes.now k) true }
+    ensures stops { result < length bytes.now → F.post passes (slice_index bytes.now result) false }
+{
+    for (i, byte) in bytes.iter().enumerate() {
+        if !passes(*byte) {
+            return i;
+        }
+    }
+    bytes.len()
+}
+
 // The first position from `at` on with that byte, or `stop`.
 pub fn find_byte(file: &[u8], at: usize, stop: usize, byte: u8) -> usize
     requires { InFile at stop file.now }
     ensures { Found at stop (past (is_not byte) at stop file.now) result }
 {
-    let mut i = at;
-    while i < stop {
-        if file[i] == byte {
-            return i;
-        }
-        i += 1;
-    }
-    i
+    at + front(&file[at..stop], |b| b != byte)
 }
 
 // A byte of a table, as a position.
