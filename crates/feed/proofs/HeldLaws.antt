@@ -12,13 +12,12 @@ use lib.Dec.{eqb, ltb}
 use mir.Syntax.{w64}
 use mir.Val.{Fits}
 use Rattle.rules.specs.Text.{all}
-use Rattle.rules.specs.Calls.{wrong_length, damaged, holding}
 use Rattle.rules.specs.Feed.{Feed, shut, fed, too_many, is_byte, sound_feed}
 use Rattle.state.proofs.BoolLaws.{both, first, second, same_test}
 use Rattle.state.proofs.ListLaws.{range_end, all_range, range_all, get_or_map_range}
-use Rattle.soundness.specs.Checks.{is_held, refused_by, zero_at, zero_between}
-use Rattle.feed.specs.Layout.{feed_size, cell_of, cells_with, encode_feed, byte_of, byte_in, bytes_in, decode_feed, sound_feed_cells, lent_feed}
-use Rattle.feed.specs.Held.{standing, clean_behind, Sound, FeedRefusal}
+use Rattle.soundness.specs.Checks.{refused_by, zero_at, zero_between}
+use Rattle.feed.specs.Layout.{feed_size, cell_of, cells_with, encode_feed, byte_of, byte_in, bytes_in, decode_feed, sound_feed_cells}
+use Rattle.feed.specs.Held.{standing, clean_behind, FeedRefusal}
 use Rattle.feed.proofs.PackLaws.{byte_zero, pack_is, pack_below}
 use Rattle.rules.proofs.FeedLaws.{many_long, kept_few}
 use Rattle.feed.proofs.FeedLaws.{cells_long, cell_is, mark_is, zeros_are, cells_many, at_small, bytes_long, bytes_small, sound_shut, sound_fed, sound_many, fed_small, fed_few, fed_many, sound_cells_lem, sound_decoded, encode_sound, lent_wrong, lent_damaged, lent_holding}
@@ -256,59 +255,38 @@ module _ (cells : List ℕ) where
 -- ---- what is lent, as the code tells it
 
 module _ (cells : List ℕ) where
-  held_is : is_held (lent_feed cells) ≡ eqb (length cells) feed_size && sound_feed_cells cells
-  unfolding is_held lent_feed
-  held_is = go (eqb (length cells) feed_size) (sound_feed_cells cells)
+  -- no mark is so large
+  pub mark_fails : 65538 < get_or cells 0 0 → false ≡ sound_feed_cells cells
+  mark_fails h = go (sound_feed_cells cells) refl
     where
-      go : (a b : Bool) → is_held (cond a (cond b (holding (decode_feed cells)) damaged) wrong_length) ≡ a && b
-      go true true = refl
-      go true false = refl
-      go false b = refl
-
-  pub wrong_length_lem : length cells ≢ feed_size → false ≡ is_held (lent_feed cells)
-  wrong_length_lem h = sym (held_is ∙ rw (ne_eqb (length cells) feed_size h))
-
-  module _ (long : length cells ≡ feed_size) where
-    held_long : is_held (lent_feed cells) ≡ sound_feed_cells cells
-    held_long = held_is ∙ rw (eq-eqb (length cells) feed_size long)
-
-    -- no mark is so large
-    pub mark_fails : 65538 < get_or cells 0 0 → false ≡ is_held (lent_feed cells)
-    mark_fails h = go (sound_feed_cells cells) refl ∙ sym held_long
-      where
-        go : (b : Bool) → sound_feed_cells cells ≡ b → false ≡ b
-        go true e = absurd (omega (arith, most_from cells e))
-        go false e = refl
-
-    -- the mark has passed
-    pub clean_decides : ((i : ℕ) → Fits w64 (get_or cells i 0)) → get_or cells 0 0 ≤ 65538 → clean_behind cells (standing (get_or cells 0 0)) ≡ is_held (lent_feed cells)
-    clean_decides fits most =
-        same_test (clean_behind cells (standing (get_or cells 0 0))) (sound_feed_cells cells) (sound_from cells long fits most) (clean_from cells)
-        ∙ sym held_long
-
-    pub sound_held : sound_feed_cells cells ≡ true → Sound cells
-    sound_held e =
-        record {
-          long = long;
-          most = most_from cells e;
-          holds = lent_holding cells long e;
-          encoded = sound_cells_lem cells e;
-          sound = sound_decoded cells e;
-        }
-
-  pub refusal_none : is_held (lent_feed cells) ≡ true → FeedRefusal cells 0
-  unfolding refused_by
-  refusal_none e =
-      let both_of = sym held_is ∙ e in
-      let long : length cells ≡ feed_size = eqb-true (length cells) feed_size (first (eqb (length cells) feed_size) (sound_feed_cells cells) both_of) in
-      let good : sound_feed_cells cells ≡ true = second (eqb (length cells) feed_size) (sound_feed_cells cells) both_of in
-      record { is = sym (ap refused_by (lent_holding cells long good)); good = λ z. sound_held long good }
+      go : (b : Bool) → sound_feed_cells cells ≡ b → false ≡ b
+      go true e = absurd (omega (arith, most_from cells e))
+      go false e = refl
 
   pub refusal_length : length cells ≢ feed_size → FeedRefusal cells 1
   unfolding refused_by
   refusal_length h = record { is = sym (ap refused_by (lent_wrong cells h)); good = λ z. absurd (omega arith) }
 
-  pub refusal_damaged : is_held (lent_feed cells) ≡ false → length cells ≡ feed_size → FeedRefusal cells 2
-  unfolding refused_by
-  refusal_damaged e h =
-      record { is = sym (ap refused_by (lent_damaged cells h (sym (held_long h) ∙ e))); good = λ z. absurd (omega arith) }
+  module _ (long : length cells ≡ feed_size) where
+    -- the mark has passed
+    pub clean_decides : ((i : ℕ) → Fits w64 (get_or cells i 0)) → get_or cells 0 0 ≤ 65538 → clean_behind cells (standing (get_or cells 0 0)) ≡ sound_feed_cells cells
+    clean_decides fits most =
+        same_test (clean_behind cells (standing (get_or cells 0 0))) (sound_feed_cells cells) (sound_from cells long fits most) (clean_from cells)
+
+    pub refusal_none : sound_feed_cells cells ≡ true → FeedRefusal cells 0
+    unfolding refused_by
+    refusal_none e =
+        record {
+          is = sym (ap refused_by (lent_holding cells long e));
+          good = λ z. record {
+            long = long;
+            most = most_from cells e;
+            holds = lent_holding cells long e;
+            encoded = sound_cells_lem cells e;
+            sound = sound_decoded cells e;
+          };
+        }
+
+    pub refusal_damaged : sound_feed_cells cells ≡ false → FeedRefusal cells 2
+    unfolding refused_by
+    refusal_damaged e = record { is = sym (ap refused_by (lent_damaged cells long e)); good = λ z. absurd (omega arith) }

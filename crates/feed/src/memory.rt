@@ -1,12 +1,12 @@
 // Feed memory as a call finds it.
 ghost use Rattle.std.specs.Prelude.{◌≤◌, ◌<◌, ◌^◌, ◌≡◌, length};
 ghost use Rattle.rules.specs.Limits.{longest_file};
-ghost use Rattle.soundness.specs.Checks.{is_held};
-ghost use Rattle.feed.specs.Layout.{feed_size, lent_feed};
+ghost use Rattle.rules.specs.Answers.{answer_number};
+ghost use Rattle.feed.specs.Layout.{feed_size, sound_feed_cells};
 ghost use Rattle.feed.specs.Held.{standing, clean_behind, FeedRefusal};
 
 use crate::layout::{BYTES, SIZE, TOO_MANY, TOTAL};
-use rules::answer::{BUFFER, DAMAGED, DONE};
+use rules::answer::Reason;
 use soundness::cells::zero_between;
 
 // 256 to the k.
@@ -58,13 +58,11 @@ fn clean_behind(feed: &[u64], n: usize) -> bool
     zero_between(feed, cell + 1, SIZE)
 }
 
-// Is it zero, or what an opening and pieces have left?
-pub fn is_sound(feed: &[u64]) -> bool
-    ensures { result ≡ is_held (lent_feed feed.now) }
+// Are these cells, of which there are as many as there should be, zero, or what an opening and pieces have left?
+fn holds_feed(feed: &[u64]) -> bool
+    requires { length feed.now ≡ feed_size }
+    ensures { result ≡ sound_feed_cells feed.now }
 {
-    if feed.len() != SIZE {
-        return false;
-    }
     let mark = feed[TOTAL];
     if TOO_MANY as u64 + 1 < mark {
         return false;
@@ -72,15 +70,15 @@ pub fn is_sound(feed: &[u64]) -> bool
     clean_behind(feed, standing(mark))
 }
 
-// 1 a wrong length, 2 damaged, 0 sound.
-pub fn refusal(feed: &[u64]) -> u64
-    ensures { FeedRefusal feed.now result }
+// Refuses memory of a wrong length, and damaged memory.
+pub fn check(feed: &[u64]) -> Result<(), Reason>
+    ensures { FeedRefusal feed.now (answer_number result) }
 {
-    if is_sound(feed) {
-        return DONE;
-    }
     if feed.len() != SIZE {
-        return BUFFER;
+        return Err(Reason::Buffer);
     }
-    DAMAGED
+    if !holds_feed(feed) {
+        return Err(Reason::Damaged);
+    }
+    Ok(())
 }

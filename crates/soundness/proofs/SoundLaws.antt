@@ -1,11 +1,11 @@
 -- The tests on cells hold together exactly if the cells are the encoding of a sound state.
 use Prim.Native.Nat.{ℕ, ◌+◌, ◌-◌, ◌≤◌, ◌<◌}
-use mathlib.Core.Bool.{Bool, true, false, cond, ◌&&◌}
+use mathlib.Core.Bool.{Bool, true, false, ◌&&◌}
 use mathlib.Core.List.{List, map}
 use mathlib.Core.Logic.{◌≢◌}
 use mathlib.Core.Path.{◌≡◌, refl, sym, ap, ◌∙◌}
 use native.Mathlib.Omega.{arith}
-use borrow.Author.Tests.{leb-true, ltb-true, ltb-false, eqb-true, le-leb, eq-eqb, ne_eqb}
+use borrow.Author.Tests.{leb-true, ltb-true, ltb-false, eqb-true, le-leb, eq-eqb}
 use lib.ListN.{length, get_or, get_or-map, get_or-eq_default, length-map}
 use lib.Seq.{ext_get_or}
 use lib.Dec.{eqb, leb, ltb}
@@ -13,8 +13,7 @@ use mir.Syntax.{w64}
 use mir.Val.{Fits}
 use Rattle.rules.specs.Text.{all, is_packed}
 use Rattle.rules.specs.State.{Symbol, Mark, unmarked, broken, frozen, unplaced, State, sound_symbol, sound_symbol_over, different_names, sound_word, sound, sound_over}
-use Rattle.rules.specs.Calls.{wrong_length, damaged, holding}
-use Rattle.state.specs.Layout.{size, name_cell, value_cell, text_cell, tag_cell, mark_cell, encode, range, symbol_in, word_in, symbols_from, words_below, decode, sound_cells, lent, lent_over}
+use Rattle.state.specs.Layout.{size, name_cell, value_cell, text_cell, tag_cell, mark_cell, encode, range, symbol_in, word_in, symbols_from, words_below, decode, sound_cells}
 use Rattle.state.specs.Good.{sound_value, Good}
 use Rattle.state.specs.Table.{no_symbol}
 use Rattle.state.proofs.BoolLaws.{both, first, second, same_test}
@@ -25,7 +24,7 @@ use Rattle.state.proofs.HeaderLaws.{mark_cell_lem, mark_is}
 use Rattle.state.proofs.SymbolLaws.{value_large, value_small}
 use Rattle.state.proofs.WordLaws.{text_is, tag_is, tag_small_lem}
 use Rattle.state.proofs.LentLaws.{lent_wrong, lent_damaged, lent_holding, sound_good, sound_state, sound_symbols, cells_sound}
-use Rattle.soundness.specs.Checks.{is_held, refused_by, Refusal, header_sound, zero_at, zero_between, value_sound, symbol_sound_at, symbols_sound, names_differ, word_sound_at, words_sound}
+use Rattle.soundness.specs.Checks.{refused_by, Refusal, header_sound, zero_at, zero_between, value_sound, symbol_sound_at, symbols_sound, names_differ, word_sound_at, words_sound}
 use Rattle.soundness.proofs.CheckLaws.{value_back, symbol_sound, sound_value_lem, text_back, tag_back, word_sound_lem, sound_word_lem, names_differ_lem}
 
 marks : (k : ℕ) (m : Mark) → k ≡ mark_cell m → k ≤ 2
@@ -211,65 +210,43 @@ module _ (cells : List ℕ) where
 -- ---- what is lent, as the code tells it
 
 module _ (cells : List ℕ) where
-  held_is : is_held (lent cells) ≡ eqb (length cells) size && sound_cells cells
-  unfolding is_held lent_over
-  held_is = go (eqb (length cells) size) (sound_cells cells)
+  -- a test that sound cells pass has failed
+  pub fails : (t : Bool) → (sound_cells cells ≡ true → t ≡ true) → t ≡ false → false ≡ sound_cells cells
+  fails t f e = go (sound_cells cells) refl
     where
-      go : (a b : Bool) → is_held (cond a (cond b (holding (decode cells)) damaged) wrong_length) ≡ a && b
-      go true true = refl
-      go true false = refl
-      go false b = refl
-
-  pub wrong_length_lem : length cells ≢ size → false ≡ is_held (lent cells)
-  wrong_length_lem h = sym (held_is ∙ rw (ne_eqb (length cells) size h))
+      go : (b : Bool) → sound_cells cells ≡ b → false ≡ b
+      go true q = sym e ∙ f q
+      go false q = refl
 
   module _ (long : length cells ≡ size) where
-    held_long : is_held (lent cells) ≡ sound_cells cells
-    held_long = held_is ∙ rw (eq-eqb (length cells) size long)
-
-    -- a test that sound cells pass has failed
-    pub fails : (t : Bool) → (sound_cells cells ≡ true → t ≡ true) → t ≡ false → false ≡ is_held (lent cells)
-    fails t f e = go (sound_cells cells) refl ∙ sym held_long
-      where
-        go : (b : Bool) → sound_cells cells ≡ b → false ≡ b
-        go true q = sym e ∙ f q
-        go false q = refl
-
     -- all tests but the last have passed
-    pub last_decides : ((i : ℕ) → Fits w64 (get_or cells i 0)) → header_sound cells ≡ true → zero_between cells (4 + get_or cells 0 0) 260 ≡ true → zero_between cells (260 + get_or cells 0 0) 516 ≡ true → symbols_sound cells (get_or cells 0 0) ≡ true → names_differ cells (get_or cells 0 0) ≡ true → words_sound cells (get_or cells 0 0) ≡ is_held (lent cells)
+    pub last_decides : ((i : ℕ) → Fits w64 (get_or cells i 0)) → header_sound cells ≡ true → zero_between cells (4 + get_or cells 0 0) 260 ≡ true → zero_between cells (260 + get_or cells 0 0) 516 ≡ true → symbols_sound cells (get_or cells 0 0) ≡ true → names_differ cells (get_or cells 0 0) ≡ true → words_sound cells (get_or cells 0 0) ≡ sound_cells cells
     last_decides fits h ns vs ss ds =
         same_test (words_sound cells (get_or cells 0 0)) (sound_cells cells) (sound_from cells long fits h ns vs ss ds) (words_from cells)
-        ∙ sym held_long
 
-module _ (cells : List ℕ) where
-  pub refusal_none : is_held (lent cells) ≡ true → Refusal cells 0
-  unfolding refused_by
-  refusal_none e =
-      let both_of = sym (held_is cells) ∙ e in
-      let long : length cells ≡ size = eqb-true (length cells) size (first (eqb (length cells) size) (sound_cells cells) both_of) in
-      let good : sound_cells cells ≡ true = second (eqb (length cells) size) (sound_cells cells) both_of in
-      record {
-        is = sym (ap refused_by (lent_holding cells long good));
-        holds = λ z. lent_holding cells long good;
-        good = λ z. sound_good cells good;
-      }
+    pub refusal_none : sound_cells cells ≡ true → Refusal cells 0
+    unfolding refused_by
+    refusal_none good =
+        record {
+          is = sym (ap refused_by (lent_holding cells long good));
+          holds = λ z. lent_holding cells long good;
+          good = λ z. sound_good cells good;
+        }
+
+    pub refusal_damaged : sound_cells cells ≡ false → Refusal cells 2
+    unfolding refused_by
+    refusal_damaged bad =
+        record {
+          is = sym (ap refused_by (lent_damaged cells long bad));
+          holds = λ z. absurd (omega arith);
+          good = λ z. absurd (omega arith);
+        }
 
   pub refusal_length : length cells ≢ size → Refusal cells 1
   unfolding refused_by
   refusal_length h =
       record {
         is = sym (ap refused_by (lent_wrong cells h));
-        holds = λ z. absurd (omega arith);
-        good = λ z. absurd (omega arith);
-      }
-
-  pub refusal_damaged : is_held (lent cells) ≡ false → length cells ≡ size → Refusal cells 2
-  unfolding refused_by
-  refusal_damaged e h =
-      let t : eqb (length cells) size ≡ true = eq-eqb (length cells) size h in
-      let bad : sound_cells cells ≡ false = ap (λ (b : Bool). b && sound_cells cells) (sym t) ∙ sym (held_is cells) ∙ e in
-      record {
-        is = sym (ap refused_by (lent_damaged cells h bad));
         holds = λ z. absurd (omega arith);
         good = λ z. absurd (omega arith);
       }

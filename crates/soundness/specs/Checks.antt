@@ -1,5 +1,5 @@
 -- Soundness as tests on cells, one for each function of src/.
-use Rattle.std.specs.Prelude.{ℕ, ◌+◌, ◌%◌, ◌≤◌, Bool, true, false, cond, not, ◌&&◌, ◌||◌, List, ◌≡◌, length, get_or, eqb, leb}
+use Rattle.std.specs.Prelude.{ℕ, ◌+◌, ◌%◌, ◌≤◌, Bool, true, cond, not, ◌&&◌, ◌||◌, List, ◌≡◌, length, get_or, eqb, leb}
 use Rattle.rules.specs.Text.{all, between, is_name_character, is_packed}
 use Rattle.rules.specs.Calls.{LentOf, wrong_length, damaged, holding}
 use Rattle.state.specs.Layout.{names_at, values_at, texts_at, tags_at, range, decode, lent}
@@ -78,19 +78,13 @@ word_sound_at cells n a = word_sound n (get_or cells (texts_at + a) 0) (get_or c
 unfoldable pub words_sound : List ℕ → ℕ → Bool
 words_sound cells n = all (word_sound_at cells n) (range 0 4096)
 
--- is what is lent sound
-unfoldable pub is_held : {A : Type 0} → LentOf A → Bool
-is_held wrong_length = false
-is_held damaged = false
-is_held (holding s) = true
-
 -- the answer that refuses what is lent, 0 where it is sound
 unfoldable pub refused_by : {A : Type 0} → LentOf A → ℕ
 refused_by wrong_length = 1
 refused_by damaged = 2
 refused_by (holding s) = 0
 
--- how `refusal` says it: besides, what a call may use of memory that holds a state
+-- how `check` says it: besides, what a call may use of memory that holds a state
 pub record Refusal (cells : List ℕ) (r : ℕ) : Type 0 where
   pub is : r ≡ refused_by (lent cells)
   pub holds : r ≡ 0 → lent cells ≡ holding (decode cells)

@@ -7,7 +7,7 @@ ghost use Rattle.soundness.specs.Checks.{header_sound, zero_between, ZeroOn, val
 use crate::name::is_packed;
 use rules::limits::{MOST_SYMBOLS, PROGRAM_WORDS};
 use state::layout::{
-    COUNT, DEFINED, FROZEN, MARK, NAMES, NEXT, PLAIN, SPARE, TAGS, TEXTS, UNPLACED, VALUES,
+    COUNT, DEFINED, MARK, Mark, NAMES, NEXT, PLAIN, SPARE, TAGS, TEXTS, UNPLACED, VALUES,
 };
 
 pub fn header_sound(state: &[u64]) -> bool
@@ -20,7 +20,7 @@ pub fn header_sound(state: &[u64]) -> bool
     if (PROGRAM_WORDS as u64) < state[NEXT] {
         return false;
     }
-    if FROZEN < state[MARK] {
+    if (Mark::Frozen as u64) < state[MARK] {
         return false;
     }
     state[SPARE] == 0

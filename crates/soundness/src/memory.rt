@@ -1,19 +1,18 @@
 // State memory as a call finds it.
-ghost use Rattle.std.specs.Prelude.{◌≡◌};
-ghost use Rattle.state.specs.Layout.{lent};
-ghost use Rattle.soundness.specs.Checks.{is_held, Refusal};
+ghost use Rattle.std.specs.Prelude.{◌≡◌, length};
+ghost use Rattle.rules.specs.Answers.{answer_number};
+ghost use Rattle.state.specs.Layout.{size, sound_cells};
+ghost use Rattle.soundness.specs.Checks.{Refusal};
 
 use crate::cells::{header_sound, names_differ, symbols_sound, words_sound, zero_between};
-use rules::answer::{BUFFER, DAMAGED, DONE};
+use rules::answer::Reason;
 use state::layout::{COUNT, NAMES, SIZE, TEXTS, VALUES};
 
-// Does it hold a sound state?
-pub fn is_sound(state: &[u64]) -> bool
-    ensures { result ≡ is_held (lent state.now) }
+// Are these cells, of which there are as many as there should be, those of a sound state?
+fn holds_state(state: &[u64]) -> bool
+    requires { length state.now ≡ size }
+    ensures { result ≡ sound_cells state.now }
 {
-    if state.len() != SIZE {
-        return false;
-    }
     if !header_sound(state) {
         return false;
     }
@@ -33,15 +32,15 @@ pub fn is_sound(state: &[u64]) -> bool
     words_sound(state, n)
 }
 
-// 1 a wrong length, 2 damaged, 0 a sound state.
-pub fn refusal(state: &[u64]) -> u64
-    ensures { Refusal state.now result }
+// Refuses memory of a wrong length, and damaged memory.
+pub fn check(state: &[u64]) -> Result<(), Reason>
+    ensures { Refusal state.now (answer_number result) }
 {
-    if is_sound(state) {
-        return DONE;
-    }
     if state.len() != SIZE {
-        return BUFFER;
+        return Err(Reason::Buffer);
     }
-    DAMAGED
+    if !holds_state(state) {
+        return Err(Reason::Damaged);
+    }
+    Ok(())
 }

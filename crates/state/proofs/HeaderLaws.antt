@@ -9,8 +9,11 @@ use borrow.Author.Tests.{eqb-true, eqb-false}
 use lib.ListN.{get_or, set}
 use lib.Dec.{eqb}
 use Rattle.rules.specs.State.{Mark, unmarked, broken, frozen, State, state, marked}
-use Rattle.rules.specs.Calls.{shut_by}
-use Rattle.state.specs.Layout.{encode, decode, mark_cell, mark_of}
+use denote.Enum.Declared.{tag_of}
+use Rattle.state.specs.Layout.{encode, decode, mark_cell, mark_of, mark_meant}
+use Rattle.state.specs.contracts.layout.Mark.{the_type}
+use Rattle.state.specs.declared.layout.Mark.{Mark as TheMark}
+use Rattle.state.specs.declared.layout.Mark.TheVariants.{Unmarked, Broken, Frozen}
 use Rattle.state.specs.Good.{Tidy, Good, Holds, with_next}
 use Rattle.state.proofs.LayoutLaws.{holds}
 
@@ -45,20 +48,20 @@ mark_cell_lem k h = go (eqb k 0) (eqb k 1) refl refl
         let n : k ≢ 1 = eqb-false k 1 q in
         omega arith
 
-pub mark_set : {cells : List ℕ} → Good cells → (k : ℕ) → k ≤ 2 → Holds (set cells 2 k) (marked (mark_of k) (decode cells))
+-- the number of the code's mark
+tag_is : (m : TheMark) → tag_of the_type m ≡ mark_cell (mark_meant m)
+tag_is Unmarked = refl
+tag_is Broken = refl
+tag_is Frozen = refl
+
+pub mark_set : {cells : List ℕ} → Good cells → (m : TheMark) → Holds (set cells 2 (tag_of the_type m)) (marked (mark_meant m) (decode cells))
 unfolding encode
-mark_set {cells} g k b =
-    holds (set cells 2 k) (marked (mark_of k) (decode cells))
-    (header_tidy g.tidy (decode cells).next (mark_of k) g.tidy.low)
-    (ap (λ (l : List ℕ). set l 2 k) g.encoded
-    ∙ ap (λ (j : ℕ). set (encode (decode cells)) 2 j) (mark_cell_lem k b))
+mark_set {cells} g m =
+    holds (set cells 2 (tag_of the_type m)) (marked (mark_meant m) (decode cells))
+    (header_tidy g.tidy (decode cells).next (mark_meant m) g.tidy.low)
+    (ap (λ (l : List ℕ). set l 2 (tag_of the_type m)) g.encoded
+    ∙ ap (λ (j : ℕ). set (encode (decode cells)) 2 j) (tag_is m))
 
 pub mark_is : {cells : List ℕ} → Good cells → get_or cells 2 0 ≡ mark_cell (decode cells).mark
 unfolding encode
 mark_is g = ap (λ (l : List ℕ). get_or l 2 0) g.encoded
-
-pub shut_is : (m : Mark) (k : ℕ) → k ≡ mark_cell m → shut_by m ≡ cond (eqb k 0) 0 (cond (eqb k 1) 3 4)
-unfolding shut_by
-shut_is unmarked k e = rw e
-shut_is broken k e = rw e
-shut_is frozen k e = rw e

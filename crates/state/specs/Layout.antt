@@ -3,6 +3,8 @@ use Rattle.std.specs.Prelude.{ℕ, zero, suc, ◌+◌, ◌-◌, Bool, cond, not,
 use Rattle.rules.specs.Text.{same_text, Alphabet, is_name_character}
 use Rattle.rules.specs.State.{Symbol, symbol, Word, unplaced, plain, refers, Mark, unmarked, broken, frozen, State, state, sound_over}
 use Rattle.rules.specs.Calls.{Lent, wrong_length, damaged, holding, Left, as_before, now}
+use Rattle.state.specs.declared.layout.Mark.{Mark as TheMark}
+use Rattle.state.specs.declared.layout.Mark.TheVariants.{Unmarked, Broken, Frozen}
 
 -- ---- the regions: four cells of header (count of symbols, next address, mark, a spare one), then four tables
 
@@ -46,6 +48,12 @@ abbrev pub mark_cell : Mark → ℕ
 mark_cell unmarked = 0
 mark_cell broken = 1
 mark_cell frozen = 2
+
+-- the mark that the code's Mark is
+abbrev pub mark_meant : TheMark → Mark
+mark_meant Unmarked = unmarked
+mark_meant Broken = broken
+mark_meant Frozen = frozen
 
 unfoldable pub zeros : ℕ → List ℕ
 zeros n = replicate n 0

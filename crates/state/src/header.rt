@@ -1,13 +1,14 @@
 // The header of state memory: how many symbols there are, the next address, the mark.
 ghost use Rattle.std.specs.Prelude.{◌≤◌, ◌≡◌, length};
 ghost use Rattle.rules.specs.Limits.{program_words};
+ghost use Rattle.rules.specs.Answers.{answer_number};
 ghost use Rattle.rules.specs.State.{marked};
 ghost use Rattle.rules.specs.Calls.{shut_by};
-ghost use Rattle.state.specs.Layout.{decode, mark_cell, mark_of};
+ghost use Rattle.state.specs.Layout.{decode, mark_meant};
 ghost use Rattle.state.specs.Good.{Good, Holds, with_next};
 
-use crate::layout::{BROKEN, COUNT, MARK, NEXT, UNMARKED};
-use rules::answer::{DONE, FROZEN, RESET};
+use crate::layout::{COUNT, MARK, Mark, NEXT};
+use rules::answer::Reason;
 
 pub fn symbol_count(state: &[u64]) -> usize
     requires { Good state.now }
@@ -31,33 +32,36 @@ pub fn set_next(state: &mut [u64], next: usize)
     state[NEXT] = next as u64;
 }
 
-// UNMARKED, BROKEN or FROZEN.
-pub fn mark(state: &[u64]) -> u64
+pub fn mark(state: &[u64]) -> Mark
     requires { Good state.now }
-    ensures { result ≡ mark_cell (decode state.now).mark }
+    ensures { mark_meant result ≡ (decode state.now).mark }
 {
-    state[MARK]
+    let cell = state[MARK];
+    if cell == Mark::Unmarked as u64 {
+        return Mark::Unmarked;
+    }
+    if cell == Mark::Broken as u64 {
+        return Mark::Broken;
+    }
+    Mark::Frozen
 }
 
-pub fn set_mark(state: &mut [u64], mark: u64)
-    requires good { Good state.old }
-    requires mark_bound { mark ≤ 2 }
-    ensures { Holds state.new (marked (mark_of mark) (decode state.old)) }
+pub fn set_mark(state: &mut [u64], mark: Mark)
+    requires { Good state.old }
+    ensures { Holds state.new (marked (mark_meant mark) (decode state.old)) }
 {
-    state[MARK] = mark;
+    state[MARK] = mark as u64;
 }
 
-// The answer with which a mark refuses LOAD, FORCE and BASE: 3 broken, 4 frozen, 0 none.
-pub fn shut_by(state: &[u64]) -> u64
+#[tactic(auto, unfolding(rules::specs::Calls::shut_by))]
+// Does the mark refuse LOAD, FORCE and BASE?
+pub fn shut_by(state: &[u64]) -> Result<(), Reason>
     requires { Good state.now }
-    ensures { result ≡ shut_by (decode state.now).mark }
+    ensures { answer_number result ≡ shut_by (decode state.now).mark }
 {
-    let m = mark(state);
-    if m == UNMARKED {
-        return DONE;
+    match mark(state) {
+        Mark::Unmarked => Ok(()),
+        Mark::Broken => Err(Reason::Reset),
+        Mark::Frozen => Err(Reason::Frozen),
     }
-    if m == BROKEN {
-        return RESET;
-    }
-    FROZEN
 }

@@ -24,12 +24,13 @@ pub const SIZE: usize = 8708;
 
 pub const LAST_ADDRESS: usize = PROGRAM_WORDS - 1;
 
-// Marks.
-pub const UNMARKED: u64 = 0;
-
-pub const BROKEN: u64 = 1;
-
-pub const FROZEN: u64 = 2;
+// The marks, each with the number in its cell.
+#[derive(Clone, Copy, PartialEq, Eq)]
+pub enum Mark {
+    Unmarked = 0,
+    Broken = 1,
+    Frozen = 2,
+}
 
 // Stands in the value's cell of a defined symbol, so that no value looks undefined.
 pub const DEFINED: u64 = 65536;

@@ -10,10 +10,10 @@ pub returns-then-state-2 : goal.returns-then-state-2
 unfolding header_sound
 returns-then-state-2 c = rw (le-leb _ 256 c.if-state.false, lt-leb _ 4096 c.if-state-2.true)
 
-pub returns-then-state-gt-FROZEN : goal.returns-then-state-gt-FROZEN
+pub returns-then-state-3 : goal.returns-then-state-3
 unfolding header_sound
-returns-then-state-gt-FROZEN c = rw (le-leb _ 256 c.if-state.false, le-leb _ 4096 c.if-state-2.false, lt-leb _ 2 c.if-state-gt-FROZEN.true)
+returns-then-state-3 c = rw (le-leb _ 256 c.if-state.false, le-leb _ 4096 c.if-state-2.false, lt-leb _ 2 c.if-state-3.true)
 
 pub returns : goal.returns
 unfolding header_sound
-returns c = rw (le-leb _ 256 c.if-state.false, le-leb _ 4096 c.if-state-2.false, le-leb _ 2 c.if-state-gt-FROZEN.false)
+returns c = rw (le-leb _ 256 c.if-state.false, le-leb _ 4096 c.if-state-2.false, le-leb _ 2 c.if-state-3.false)
