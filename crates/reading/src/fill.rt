@@ -5,7 +5,7 @@ ghost use Rattle.reading.specs.Filling.{Put, filled_of, PartRoom, RowRoom, parts
 
 use rules::reading::Part;
 use tables::parts::{part_body, part_head};
-use tables::rows::{FREE, MEMBER, SECTION, row_body, row_head};
+use tables::rows::{RowKind, row_body, row_head};
 
 // How many parts and rows are written, and where the parts of the open module and the rows of the open section begin.
 #[derive(Clone, Copy, Default)]
@@ -52,14 +52,14 @@ pub fn close_module(rows: &mut [u64], filled: Filled, member: bool, line: u32) -
 {
     let body = row_body(filled.object, filled.parts);
     if member {
-        put(rows, filled.rows, row_head(MEMBER, line), body);
+        put(rows, filled.rows, row_head(RowKind::Member, line), body);
         return Filled {
             rows: filled.rows + 1,
             object: filled.parts,
             ..filled
         };
     }
-    put(rows, filled.rows, row_head(FREE, line), body);
+    put(rows, filled.rows, row_head(RowKind::Free, line), body);
     Filled {
         rows: filled.rows + 1,
         object: filled.parts,
@@ -74,7 +74,7 @@ pub fn close_section(rows: &mut [u64], filled: Filled, line: u32) -> Filled
     ensures { Fills rows_in (add_section line) filled rows.old result rows.new }
 {
     let body = row_body(filled.section, filled.rows);
-    put(rows, filled.rows, row_head(SECTION, line), body);
+    put(rows, filled.rows, row_head(RowKind::Section, line), body);
     Filled {
         rows: filled.rows + 1,
         object: filled.parts,
