@@ -35,7 +35,6 @@ use Rattle.reading.specs.Filling.{filled_of, parts_in, rows_in, PartRoom, RowRoo
 use Rattle.reading.specs.Lines.{Reached, clean, fault, gone_on, go_on, line_in, ended_at, reached_from, lines_read, RunFrom, Begins, TablesKept, LinesInto}
 use Rattle.reading.specs.declared.Clean.{Clean}
 use Rattle.reading.specs.declared.Place.{Place}
-use Rattle.reading.specs.declared.FileRead.{FileRead}
 use Rattle.reading.specs.declared.LinesRead.{LinesRead}
 use Rattle.reading.specs.declared.fill.Filled.{Filled}
 use Rattle.reading.proofs.GoLaws.{go_records, ended_is}

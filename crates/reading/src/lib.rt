@@ -119,7 +119,11 @@ pub fn read_lines<K: Keep>(
         at = said.next;
         match step {
             Step::Stop { number, column } => {
-                let reached = Err(Stop { number, line: n, column });
+                let reached = Err(Stop {
+                    number,
+                    line: n,
+                    column,
+                });
                 return LinesRead { reached, filled };
             }
             Step::Next(m) => mode = m,
@@ -153,7 +157,9 @@ pub fn read_file(file: &[u8], parts: &mut [u64], rows: &mut [u64]) -> FileRead
     };
     let read = read_lines::<IntoTables>(file, start, parts, rows);
     FileRead {
-        reading: read.reached.and_then(|clean| at_end(clean.line, clean.mode)),
+        reading: read
+            .reached
+            .and_then(|clean| at_end(clean.line, clean.mode)),
         parts: read.filled.parts,
         rows: read.filled.rows,
     }
