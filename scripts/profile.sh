@@ -16,7 +16,7 @@ KEPT='cells::(clear|copy)|soundness::memory::refusal|soundness::cells::(names_di
 |line::fields::(read_field|field_at|name_at|bounded_at)|line::records::(code_line|plain_line|linked_line)|line::named::(name_alone|entry_line)|line::headers::(block_line|header_line)|steps::lines::step_of
 |line_reader::\w+|usual::(usual_word|plain_word)|walking::walk|index::(repeats|add_module|seek)|search::rounds::\w+|search::candidates::mark_undefined|search::modules::is_needed
 |search::visits::visit_module|order::(seek|insert|make)|state::words::high|placing::(place|place_row)|placing::tests::(survey|bad_arguments|out_of_range)|placing::names::duplicates
-|placing::symbols::(enter|mention_all)|placing::words::(lay|link)|image::(image_length|write_words|write_image)|loading::(walk_file|load_file)'
+|placing::symbols::(enter|mention_all)|placing::words::(lay|link)|image::(image_length|write_image|Output::put_words)|loading::(walk_file|load_file)'
 
 out=$PWD/target/profile
 bench() { (cd compare && LNK100_LIB="$1" CARGO_TARGET_DIR="$out/cargo-$2" cargo build --offline --quiet --release --features library --bin bench); }

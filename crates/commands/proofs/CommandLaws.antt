@@ -10,6 +10,9 @@ use native.Mathlib.Nat.{zero-add}
 use lib.ListN.{length, drop}
 use lib.Dec.{leb}
 use borrow.Author.Tests.{eq-eqb, ne_eqb, lt-ltb, le-ltb, le-leb, lt-leb, leb-true, leb-false}
+use Rattle.std.specs.Prelude.{Result, Ok, Err}
+use Rattle.rules.specs.Answers.{reason_number, answer_number}
+use Rattle.rules.specs.declared.answer.Reason.{Reason}
 use Rattle.rules.specs.Text.{any, is_name, pack_name, name_of, name_over}
 use Rattle.rules.specs.State.{Symbol, State, Mark, unmarked, broken, frozen, fresh, marked, name_is, is_symbol}
 use Rattle.rules.specs.Placing.{mention}
@@ -23,6 +26,9 @@ use Rattle.state.specs.Table.{Joined}
 use Rattle.image.specs.Output.{overlay, Written}
 use Rattle.state.proofs.LentLaws.{lent_wrong, held_cells}
 use Rattle.state.specs.Promise.{Called, Ended}
+use Rattle.state.proofs.TableLaws.{joined_holds}
+use Rattle.soundness.specs.Checks.{Refusal}
+use Rattle.soundness.proofs.RefusalLaws.{reason_refuses, refused}
 use Rattle.state.proofs.PromiseLaws.{called_stopped, called_done}
 
 -- ---- RESET
@@ -31,9 +37,9 @@ held_short : (b : Bool) (s : State) → cond b (holding s) damaged ≡ wrong_len
 held_short true s e = let z : ◌≡◌ {A = ℕ} 0 1 = cc in omega arith
 held_short false s e = let z : ◌≡◌ {A = ℕ} 0 1 = cc in omega arith
 
-pub reset_short : (cells : List ℕ) → length cells ≢ size → reset (lent cells) ≡ stopped 1
+pub reset_short : {cells : List ℕ} → length cells ≢ size → Called (reset (lent cells)) cells (call_answer 1) cells
 unfolding reset
-reset_short cells h = rw (lent_wrong cells h)
+reset_short {cells} h = called_stopped (rw (lent_wrong cells h))
 
 lent_right : (cells : List ℕ) → length cells ≡ size → lent cells ≢ wrong_length
 unfolding lent_over
@@ -45,23 +51,28 @@ reset_any wrong_length h = absurd (h refl)
 reset_any damaged h = refl
 reset_any (holding s) h = refl
 
-pub reset_done : (cells : List ℕ) → length cells ≡ size → reset (lent cells) ≡ done fresh
-reset_done cells h = reset_any (lent cells) (lent_right cells h)
+pub reset_done : {cells after : List ℕ} → length cells ≡ size → Holds after fresh → Called (reset (lent cells)) cells (call_answer 0) after
+reset_done {cells} h q = called_done (reset_any (lent cells) (lent_right cells h)) q
 
--- ---- BASE, from memory that holds a state
+-- ---- BASE
 
-module _ (cells : List ℕ) (s : State) (h : lent cells ≡ holding s) where
-  pub base_shut : (a k : ℕ) → k ≡ shut_by s.mark → k ≢ 0 → base (lent cells) a ≡ stopped k
+module _ {cells : List ℕ} (a : ℕ) where
+  pub base_unsound : (e : Reason) → Refusal cells (reason_number e) → Called (base (lent cells) a) cells (call_answer (reason_number e)) cells
+  unfolding base
+  base_unsound e r = called_stopped (refused (λ l. base l a) stopped refl refl e r)
+
+  pub base_shut : (e : Reason) → Refusal cells 0 → reason_number e ≡ shut_by (decode cells).mark → Called (base (lent cells) a) cells (call_answer (reason_number e)) cells
   unfolding base base_state
-  base_shut a k e z = rw (h, ← e) (simp (ne_eqb k 0 z))
+  base_shut e r q = called_stopped (rw (r.holds refl, ← q) (simp (ne_eqb (reason_number e) 0 (reason_refuses e))))
 
-  pub base_over : (a : ℕ) → shut_by s.mark ≡ 0 → 4095 < a → base (lent cells) a ≡ stopped 12
+  pub base_over : Refusal cells 0 → 0 ≡ shut_by (decode cells).mark → 4095 < a → Called (base (lent cells) a) cells (call_answer 12) cells
   unfolding base base_state
-  base_over a e o = simp (h, e, lt-ltb 4095 a o)
+  base_over r q o = called_stopped (simp (r.holds refl, sym q, lt-ltb 4095 a o))
 
-  pub base_done : (a : ℕ) → shut_by s.mark ≡ 0 → a ≤ 4095 → base (lent cells) a ≡ done (with_next a s)
+  pub base_done : {after : List ℕ} → Refusal cells 0 → 0 ≡ shut_by (decode cells).mark → a ≤ 4095 → Holds after (with_next a (decode cells)) →
+      Called (base (lent cells) a) cells (call_answer 0) after
   unfolding base base_state
-  base_done a e o = simp (h, e, le-ltb 4095 a o)
+  base_done r q o h = called_done (simp (r.holds refl, sym q, le-ltb 4095 a o)) h
 
 -- ---- FORCE
 
@@ -94,109 +105,105 @@ mention_new x (s ∷ t) h = go (name_is x s) h (mention_new x t)
     go true h ih = absurd (true≢false h)
     go false h ih = let k = ih h in omega arith
 
-module _ (cells : List ℕ) (s : State) (h : lent cells ≡ holding s) (name : List ℕ) where
-  pub force_shut : (k : ℕ) → k ≡ shut_by s.mark → k ≢ 0 → force (lent cells) name ≡ stopped k
+module _ {cells : List ℕ} (name : List ℕ) where
+  pub force_unsound : (e : Reason) → Refusal cells (reason_number e) → Called (force (lent cells) name) cells (call_answer (reason_number e)) cells
+  unfolding force_over
+  force_unsound e r = called_stopped (refused (λ l. force l name) stopped refl refl e r)
+
+  pub force_shut : (e : Reason) → Refusal cells 0 → reason_number e ≡ shut_by (decode cells).mark → Called (force (lent cells) name) cells (call_answer (reason_number e)) cells
   unfolding force_over force_state_over
-  force_shut k e z = rw (h, ← e) (simp (ne_eqb k 0 z))
+  force_shut e r q = called_stopped (rw (r.holds refl, ← q) (simp (ne_eqb (reason_number e) 0 (reason_refuses e))))
 
-  module _ (free : shut_by s.mark ≡ 0) where
-    pub force_illegal : none ≡ name_of name → force (lent cells) name ≡ stopped 15
-    unfolding force_over force_state_over name_over
-    force_illegal e = simp (h, free, no_name (is_name name) (pack_name name) e)
+  pub force_illegal : Refusal cells 0 → 0 ≡ shut_by (decode cells).mark → none ≡ name_of name → Called (force (lent cells) name) cells (call_answer 15) cells
+  unfolding force_over force_state_over name_over
+  force_illegal r free e =
+      called_stopped (simp (r.holds refl, sym free, no_name (is_name name) (pack_name name) e))
 
-    module _ (x : ℕ) (e : some x ≡ name_of name) where
-      legal : (is_name name ≡ true) × (x ≡ pack_name name)
-      unfolding name_over
-      legal = chosen_name (is_name name) (pack_name name) x e
+  module _ (x : ℕ) (r : Refusal cells 0) (free : 0 ≡ shut_by (decode cells).mark) (e : some x ≡ name_of name) where
+    legal : (is_name name ≡ true) × (x ≡ pack_name name)
+    unfolding name_over
+    legal = chosen_name (is_name name) (pack_name name) x e
 
-      -- there already, or with room for one more
-      pub force_done : leb (length (mention x s.symbols)) 256 ≡ true → force (lent cells) name ≡ done (with_symbols (mention x s.symbols) s)
-      unfolding force_over force_state_over
-      force_done r = simp (h, free, legal.0) (rw (← legal.1) (go (is_symbol x s.symbols) refl))
-        where
-          t : List Symbol
-          t = s.symbols
+    abbrev t : List Symbol
+    t = (decode cells).symbols
 
-          go : (b : Bool) → is_symbol x t ≡ b →
-              cond b (done s) (cond (leb 256 (length t)) (stopped 14) (done (with_symbols (mention x t) s))) ≡ done (with_symbols (mention x t) s)
-          go true q = ap (λ u. done (with_symbols u s)) (sym (mention_known x t q))
-          go false q =
-              let fits = leb-true (length (mention x t)) 256 r in
-              simp (lt-leb 256 (length t) (omega (arith, mention_new x t q, fits)))
+    -- there already, or with room for one more
+    done_if : leb (length (mention x t)) 256 ≡ true → force (lent cells) name ≡ done (with_symbols (mention x t) (decode cells))
+    unfolding force_over force_state_over
+    done_if fits = simp (r.holds refl, sym free, legal.0) (rw (← legal.1) (go (is_symbol x t) refl))
+      where
+        go : (b : Bool) → is_symbol x t ≡ b →
+            cond b (done (decode cells)) (cond (leb 256 (length t)) (stopped 14) (done (with_symbols (mention x t) (decode cells)))) ≡ done (with_symbols (mention x t) (decode cells))
+        go true q = ap (λ u. done (with_symbols u (decode cells))) (sym (mention_known x t q))
+        go false q =
+            let few = leb-true (length (mention x t)) 256 fits in
+            simp (lt-leb 256 (length t) (omega (arith, mention_new x t q, few)))
 
-      pub force_full : length s.symbols ≤ 256 → leb (length (mention x s.symbols)) 256 ≡ false → force (lent cells) name ≡ stopped 14
-      unfolding force_over force_state_over
-      force_full few r = simp (h, free, legal.0) (rw (← legal.1) (go (is_symbol x s.symbols) refl))
-        where
-          t : List Symbol
-          t = s.symbols
+    full_if : leb (length (mention x t)) 256 ≡ false → force (lent cells) name ≡ stopped 14
+    unfolding force_over force_state_over
+    full_if full = simp (r.holds refl, sym free, legal.0) (rw (← legal.1) (go (is_symbol x t) refl))
+      where
+        over : 256 < length (mention x t)
+        over = leb-false (length (mention x t)) 256 full
 
-          go : (b : Bool) → is_symbol x t ≡ b →
-              cond b (done s) (cond (leb 256 (length t)) (stopped 14) (done (with_symbols (mention x t) s))) ≡ stopped 14
-          go true q =
-              let over = leb-false (length (mention x t)) 256 r in
-              absurd (omega (arith, over, few, ap length (mention_known x t q)))
-          go false q =
-              let over = leb-false (length (mention x t)) 256 r in
-              simp (le-leb 256 (length t) (omega (arith, mention_new x t q, over)))
+        go : (b : Bool) → is_symbol x t ≡ b →
+            cond b (done (decode cells)) (cond (leb 256 (length t)) (stopped 14) (done (with_symbols (mention x t) (decode cells)))) ≡ stopped 14
+        go true q = absurd (omega (arith, over, (r.good refl).tidy.few, ap length (mention_known x t q)))
+        go false q = simp (le-leb 256 (length t) (omega (arith, mention_new x t q, over)))
 
--- what joined the table, or did not, as FORCE answers it
-module _ (cells : List ℕ) (s : State) (t : List Symbol) (o : Outcome CallAnswer) (after : List ℕ) (r : Bool) (j : Joined t s r after) where
-  pub called_joined : (a : CallAnswer) → r ≡ true → (leb (length t) 256 ≡ true → o ≡ done (with_symbols t s)) → a ≡ call_answer 0 → Called o cells a after
-  called_joined a yes_room f p =
-      let room = sym j.room ∙ yes_room in
-      called_done o _ (with_symbols t s) cells after a (f room) (rw room at j.holds) p
-
-  pub called_kept : (a : CallAnswer) → Good cells → s ≡ decode cells → r ≡ false → (leb (length t) 256 ≡ false → o ≡ stopped 14) → a ≡ call_answer 14 → Called o cells a after
-  called_kept a good e no_room_lem f p =
-      let full = sym j.room ∙ no_room_lem in
-      let kept : Holds after s = rw full at j.holds in
-      let same : after ≡ cells = held_cells kept ∙ ap encode e ∙ sym good.encoded in
-      subst (Called o cells a) (sym same) (called_stopped o _ cells a (f full) p)
+    -- by whether the name has joined the table
+    pub force_joined : (o : Result (Unit {0}) Reason) {after : List ℕ} → Joined (mention x (decode cells).symbols) (decode cells) o after →
+        Called (force (lent cells) name) cells (call_answer (answer_number o)) after
+    force_joined (Ok u) j = called_done (done_if (sym j.room)) (joined_holds j)
+    force_joined (Err y) {after} j =
+        let kept : Holds after (decode cells) = rw (← j.room) at j.holds in
+        let same : after ≡ cells = held_cells kept ∙ sym (r.good refl).encoded in
+        rw (same, j.full) (called_stopped (full_if (sym j.room)))
 
 -- ---- END
 
-pub ended_stopped : (o : EndOutcome) (k : ℕ) (cells out : List ℕ) (a : EndAnswer) → o ≡ end_stopped k out → a ≡ end_answer k 0 → Ended o cells a cells out
-ended_stopped o k cells out a e p =
-    record {
-      call = called_stopped o.call _ cells a (ap (λ (x : EndOutcome). x.call) e) p;
-      output = ap (λ (x : EndOutcome). x.output) (sym e);
-    }
-
-pub ended_done : (o : EndOutcome) (s : State) (cells after out out' : List ℕ) (r n : ℕ) (a : EndAnswer) →
-    o ≡ end_done s (image_of s) out → Holds after (marked frozen s) → Written 0 (image_of s) out out' r → n ≡ length (image_of s) →
-    a ≡ end_answer 0 n → Ended o cells a after out'
-unfolding overlay
-ended_done o s cells after out out' r n a e h w q p =
-    record {
-      call = called_done o.call _ (marked frozen s) cells after a (ap (λ (x : EndOutcome). x.call) e) h (p ∙ ap (end_answer 0) q);
-      output =
-          w.out
-          ∙ ap (λ k. image_of s ++ drop k out) (zero-add (length (image_of s)))
-          ∙ ap (λ (x : EndOutcome). x.output) (sym e);
-    }
-
-broken_mark : (k : Mark) → mark_cell k ≡ 1 → is_broken k ≡ true
+broken_mark : (k : Mark) → k ≡ broken → is_broken k ≡ true
 unfolding is_broken
-broken_mark unmarked e = absurd (omega arith)
-broken_mark broken e = refl
-broken_mark frozen e = absurd (omega arith)
+broken_mark k e = rw e
 
-whole_mark : (k : Mark) → mark_cell k ≢ 1 → is_broken k ≡ false
+whole_mark : (k : Mark) → k ≢ broken → is_broken k ≡ false
 unfolding is_broken
 whole_mark unmarked e = refl
 whole_mark broken e = absurd (e refl)
 whole_mark frozen e = refl
 
-module _ (cells : List ℕ) (s : State) (h : lent cells ≡ holding s) (out : List ℕ) where
-  pub end_broken : (k : ℕ) → k ≡ mark_cell s.mark → k ≡ 1 → end (lent cells) out ≡ end_stopped 3 out
-  unfolding end end_state
-  end_broken k e q = simp (h, broken_mark s.mark (sym e ∙ q))
+ended_stopped : {o : EndOutcome} {k : ℕ} {cells out : List ℕ} → o ≡ end_stopped k out → Ended o cells (end_answer k 0) cells out
+ended_stopped e =
+    record { call = called_stopped (ap (λ (x : EndOutcome). x.call) e); output = ap (λ (x : EndOutcome). x.output) (sym e) }
 
-  pub end_short : (k n : ℕ) → k ≡ mark_cell s.mark → k ≢ 1 → n ≡ length (image_of s) → length out < n → end (lent cells) out ≡ end_stopped 16 out
-  unfolding end end_state
-  end_short k n e q i l = simp (h, whole_mark s.mark (λ z. q (e ∙ z)), lt-ltb (length out) (length (image_of s)) (omega arith))
+module _ {cells : List ℕ} (out : List ℕ) where
+  pub end_unsound : (e : Reason) → Refusal cells (reason_number e) → Ended (end (lent cells) out) cells (end_answer (reason_number e) 0) cells out
+  unfolding end
+  end_unsound e r = ended_stopped (refused (λ l. end l out) (λ k. end_stopped k out) refl refl e r)
 
-  pub end_done_lem : (k n : ℕ) → k ≡ mark_cell s.mark → k ≢ 1 → n ≡ length (image_of s) → n ≤ length out → end (lent cells) out ≡ end_done s (image_of s) out
+  pub end_broken : Refusal cells 0 → (decode cells).mark ≡ broken → Ended (end (lent cells) out) cells (end_answer 3 0) cells out
   unfolding end end_state
-  end_done_lem k n e q i l = simp (h, whole_mark s.mark (λ z. q (e ∙ z)), le-ltb (length out) (length (image_of s)) (omega arith))
+  end_broken r q = ended_stopped (simp (r.holds refl, broken_mark (decode cells).mark q))
+
+  module _ (r : Refusal cells 0) (q : (decode cells).mark ≢ broken) (n : ℕ) (size : n ≡ length (image_of (decode cells))) where
+    pub end_short : length out < n → Ended (end (lent cells) out) cells (end_answer 16 0) cells out
+    unfolding end end_state
+    end_short l =
+        ended_stopped (simp (r.holds refl, whole_mark (decode cells).mark q, lt-ltb (length out) (length (image_of (decode cells))) (omega arith)))
+
+    done_if : n ≤ length out → end (lent cells) out ≡ end_done (decode cells) (image_of (decode cells)) out
+    unfolding end end_state
+    done_if l = simp (r.holds refl, whole_mark (decode cells).mark q, le-ltb (length out) (length (image_of (decode cells))) (omega arith))
+
+    pub end_written : {after written : List ℕ} {behind : ℕ} → n ≤ length out → Written 0 (image_of (decode cells)) out written behind →
+        Holds after (marked frozen (decode cells)) → Ended (end (lent cells) out) cells (end_answer 0 n) after written
+    unfolding overlay
+    end_written l w h =
+        let e = done_if l in
+        record {
+          call = rw size (called_done (ap (λ (x : EndOutcome). x.call) e) h);
+          output =
+              w.out
+              ∙ ap (λ k. image_of (decode cells) ++ drop k out) (zero-add (length (image_of (decode cells))))
+              ∙ ap (λ (x : EndOutcome). x.output) (sym e);
+        }

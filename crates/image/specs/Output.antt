@@ -1,8 +1,8 @@
 -- How the functions that write the image say what they wrote.
-use Rattle.std.specs.Prelude.{◌≡◌, ℕ, ◌+◌, ◌≢◌, List, ◌∷◌, ◌++◌, length, take, drop, slice_index_or}
+use Rattle.std.specs.Prelude.{◌≡◌, ℕ, ◌+◌, List, ◌∷◌, ◌++◌, length, take, drop, slice_index_or}
 use Rattle.rules.specs.Image.{two, record_of, records_from}
 use Rattle.rules.specs.State.{State, unplaced}
-use Rattle.state.specs.Words.{Tagged}
+use Rattle.image.specs.declared.Output.{Output as Cursor}
 
 -- the output with these bytes at a position, all else as it was
 unfoldable pub overlay : ℕ → List ℕ → List ℕ → List ℕ
@@ -25,7 +25,10 @@ pub record Written (at : ℕ) (bytes before after : List ℕ) (r : ℕ) : Type 0
   pub out : after ≡ overlay at bytes before
   pub behind : r ≡ at + length bytes
 
--- the tag of a placed word
-pub record PlacedTag (s : State) (a tag : ℕ) : Type 0 where
-  pub is : Tagged s a tag
-  pub some_word : tag ≢ 0
+-- a piece was put behind what was written, and the rest is as it was
+pub record Puts (piece : List ℕ) (before after : Cursor) : Type 0 where
+  pub same_output : after.bytes.ghost_name ≡ before.bytes.ghost_name
+  pub same_length : length after.bytes.now ≡ length before.bytes.now
+  pub behind : after.at ≡ before.at + length piece
+  pub front : take after.at after.bytes.now ≡ take before.at before.bytes.now ++ piece
+  pub rest : drop after.at after.bytes.now ≡ drop after.at before.bytes.now

@@ -9,12 +9,19 @@ use lib.ListN.{length, get_or}
 use lib.Dec.{eqb, ltb}
 use borrow.Author.Tests.{eq-eqb, ne_eqb, eqb-false, lt-ltb, le-ltb, ltb-true, ltb-false}
 use Rattle.rules.specs.Text.{any}
-use Rattle.rules.specs.State.{Symbol, State, name_is, is_symbol, position_of, undefined_only, different_names, highest, high}
-use Rattle.rules.specs.Calls.{holding, memory_answer, memory, symbol_none, symbol_at, symbols, undefined_none, undefined_at, undefined}
+use Rattle.rules.specs.State.{Symbol, name_is, is_symbol, position_of, undefined_only, different_names, highest, high}
+use Rattle.rules.specs.Calls.{memory_answer, memory, symbol_none, symbol_at, symbols, undefined_none, undefined_at, undefined}
 use Rattle.rules.proofs.TestLaws.{none_first, none_rest}
 use Rattle.rules.proofs.TableLaws.{different_cons}
-use Rattle.state.specs.Layout.{lent}
-use Rattle.state.specs.Table.{no_symbol, listed, undefined_position}
+use Rattle.rules.specs.Outcomes.{memory_told}
+use Rattle.listings.specs.Told.{symbol_told, undefined_told}
+use Rattle.std.specs.Prelude.{Option, Some, None, Ok, Err, MatchOption, is_some, unwrap_or}
+use Rattle.soundness.specs.Checks.{Refusal}
+use Rattle.soundness.proofs.RefusalLaws.{refused}
+use Rattle.rules.specs.Answers.{reason_number}
+use Rattle.rules.specs.declared.answer.Reason.{Reason}
+use Rattle.state.specs.Layout.{lent, decode}
+use Rattle.state.specs.Table.{Listing, no_symbol, undefined_position}
 use Rattle.state.specs.declared.table.Listed.{Listed}
 
 -- ---- positions in the table
@@ -126,48 +133,73 @@ undefined_out (s ∷ t) k h = go s.defined refl k h (undefined_out t)
     go false e zero h ih = absurd (omega arith)
     go false e (suc k) h ih = omega (arith, place_later s t k e, ih k (omega arith))
 
--- ---- the answers, from memory that holds a state
+-- with a position in the table, there is such a symbol, and else none
+module _ (t : List Symbol) (k : ℕ) where
+  there : undefined_position k t < length t → (b : Bool) → ltb k (length (undefined_only t)) ≡ b → b ≡ true
+  there l true e = refl
+  there l false e = absurd (omega (arith, undefined_out t k (ltb-false k (length (undefined_only t)) e)))
 
-module _ (cells : List ℕ) (s : State) (h : lent cells ≡ holding s) where
-  pub memory_is : (n : ℕ) → n ≡ high s.words → memory_answer 0 n ≡ memory (lent cells)
+  beyond : undefined_position k t ≡ length t → (b : Bool) → ltb k (length (undefined_only t)) ≡ b → b ≡ false
+  beyond l false e = refl
+  beyond l true e =
+      let u = undefined_in t k (ltb-true k (length (undefined_only t)) e) in
+      absurd (omega (arith, u.inside))
+
+-- ---- the answers
+
+module _ {cells : List ℕ} where
+  pub memory_refused : (e : Reason) → Refusal cells (reason_number e) → memory_told (Err e) ≡ memory (lent cells)
   unfolding memory
-  memory_is n e = rw (h, e)
+  memory_refused e r = sym (refused memory (λ k. memory_answer k 0) refl refl e r)
 
-  pub symbol_past : (i n : ℕ) → n ≡ length s.symbols → n ≤ i → symbol_none 0 1 ≡ symbols (lent cells) i
+  pub memory_is : (n : ℕ) → Refusal cells 0 → n ≡ high (decode cells).words → memory_told (Ok n) ≡ memory (lent cells)
+  unfolding memory
+  memory_is n r e = rw (r.holds refl, e)
+
+-- what is told of a symbol
+value_told : (s : Symbol) (v : Option ℕ) → MatchOption v ((s.defined ≡ false) × (s.value ≡ 0)) (λ x. (s.defined ≡ true) × (x ≡ s.value)) →
+    (unwrap_or v 0 ≡ s.value) × (is_some v ≡ s.defined)
+value_told s None m = (sym m.1, sym m.0)
+value_told s (Some x) m = (m.1, sym m.0)
+
+module _ {cells : List ℕ} where
+  pub symbols_refused : (i : ℕ) (e : Reason) → Refusal cells (reason_number e) → symbol_told (Err e) ≡ symbols (lent cells) i
+  unfolding symbols
+  symbols_refused i e r = sym (refused (λ l. symbols l i) (λ k. symbol_none k 0) refl refl e r)
+
+  pub symbols_past : (i : ℕ) → Refusal cells 0 → length (decode cells).symbols ≤ i → symbol_told (Ok None) ≡ symbols (lent cells) i
   unfolding symbols symbol_at
-  symbol_past i n e l = rw h (simp (le-ltb i (length s.symbols) (omega arith)))
+  symbols_past i r l = rw (r.holds refl) (simp (le-ltb i (length (decode cells).symbols) l))
 
-  pub symbol_is_lem : (i n : ℕ) (l : Listed) → n ≡ length s.symbols → i < n → l ≡ listed (get_or s.symbols i no_symbol) →
-      record { number = 0; line = 0; none = 0; name = l.name; value = l.value; defined = l.defined } ≡ symbols (lent cells) i
+  pub symbols_at : (i : ℕ) (l : Listed) → Refusal cells 0 → i < length (decode cells).symbols → Listing (get_or (decode cells).symbols i no_symbol) l →
+      symbol_told (Ok (Some l)) ≡ symbols (lent cells) i
   unfolding symbols symbol_at
-  symbol_is_lem i n l e b q = rw (h, q) (simp (lt-ltb i (length s.symbols) (omega arith)))
+  symbols_at i l r b m =
+      let told = value_told (get_or (decode cells).symbols i no_symbol) l.value m.value in
+      rw (r.holds refl, m.name, told.0, told.1) (simp (lt-ltb i (length (decode cells).symbols) b))
 
-  module _ (k p n : ℕ) (at : p ≡ undefined_position k s.symbols) (count : n ≡ length s.symbols) where
-    -- with a position in the table, there is such a symbol
-    undefined_there : p < n → (b : Bool) → ltb k (length (undefined_only s.symbols)) ≡ b → b ≡ true
-    undefined_there l true e = refl
-    undefined_there l false e =
-        absurd (omega (arith, undefined_out s.symbols k (ltb-false k (length (undefined_only s.symbols)) e)))
+  pub undefined_refused : (k : ℕ) (e : Reason) → Refusal cells (reason_number e) → undefined_told (Err e) ≡ undefined (lent cells) k
+  unfolding undefined
+  undefined_refused k e r = sym (refused (λ l. undefined l k) (λ j. undefined_none j 0) refl refl e r)
 
-    undefined_beyond : n ≤ p → (b : Bool) → ltb k (length (undefined_only s.symbols)) ≡ b → b ≡ false
-    undefined_beyond l false e = refl
-    undefined_beyond l true e =
-        let u = undefined_in s.symbols k (ltb-true k (length (undefined_only s.symbols)) e) in
-        absurd (omega (arith, u.inside))
+  pub undefined_end : (k : ℕ) → Refusal cells 0 → undefined_position k (decode cells).symbols ≡ length (decode cells).symbols →
+      undefined_told (Ok None) ≡ undefined (lent cells) k
+  unfolding undefined undefined_at
+  undefined_end k r l = rw (r.holds refl) (simp (beyond (decode cells).symbols k l _ refl))
 
-    pub undefined_past_end : n ≤ p → undefined_none 0 1 ≡ undefined (lent cells) k
-    unfolding undefined undefined_at
-    undefined_past_end l = rw h (simp (undefined_beyond l _ refl))
-
-    pub undefined_is_lem : (l : Listed) (a : ℕ) → different_names s.symbols ≡ true → p < n →
-        l ≡ listed (get_or s.symbols p no_symbol) → a ≡ highest p s.words →
-        record { number = 0; line = 0; none = 0; name = l.name; value = l.value; defined = l.defined; highest = a } ≡ undefined (lent cells) k
-    unfolding undefined undefined_at
-    undefined_is_lem l a d b q r =
-        let there = undefined_there b (ltb k (length (undefined_only s.symbols))) refl in
-        let u = undefined_in s.symbols k (ltb-true k (length (undefined_only s.symbols)) there) in
-        let y = get_or (undefined_only s.symbols) k no_symbol in
-        let same : get_or s.symbols p no_symbol ≡ y = ap (λ i. get_or s.symbols i no_symbol) at ∙ u.is in
-        let position : position_of y.name s.symbols ≡ p =
-        ap (λ (z : Symbol). position_of z.name s.symbols) (sym same) ∙ position_unique s.symbols p no_symbol d (omega arith) in
-        rw h (simp there (rw (q, same, r, position)))
+  pub undefined_at_lem : (k p a : ℕ) (l : Listed) → Refusal cells 0 →
+      p < length (decode cells).symbols → p ≡ undefined_position k (decode cells).symbols →
+      Listing (get_or (decode cells).symbols p no_symbol) l → a ≡ highest p (decode cells).words →
+      undefined_told (Ok (Some (l, a))) ≡ undefined (lent cells) k
+  unfolding undefined undefined_at
+  undefined_at_lem k p a l r inside at m top =
+      let t = (decode cells).symbols in
+      let within : undefined_position k t < length t = omega arith in
+      let here = there t k within (ltb k (length (undefined_only t))) refl in
+      let u = undefined_in t k (ltb-true k (length (undefined_only t)) here) in
+      let y = get_or (undefined_only t) k no_symbol in
+      let same : get_or t p no_symbol ≡ y = ap (λ i. get_or t i no_symbol) at ∙ u.is in
+      let position : position_of y.name t ≡ p =
+      ap (λ (z : Symbol). position_of z.name t) (sym same) ∙ position_unique t p no_symbol (r.good refl).tidy.different inside in
+      let told = value_told (get_or t p no_symbol) l.value m.value in
+      rw (r.holds refl, m.name, told.0, told.1, top, same) (simp here (rw position))

@@ -9,19 +9,18 @@ use Rattle.state.specs.Good.{Holds}
 use Rattle.state.specs.Promise.{Called}
 use Rattle.state.proofs.LentLaws.{left_cells}
 
-module _ {A : Type 0} (o : Outcome A) (a : A) where
-  pub called_stopped : (cells : List ℕ) (r : A) → o ≡ outcome a as_before → r ≡ a → Called o cells r cells
+module _ {A : Type 0} {o : Outcome A} {a : A} {cells : List ℕ} where
+  pub called_stopped : o ≡ outcome a as_before → Called o cells a cells
   unfolding cells_after
-  called_stopped cells r e p =
+  called_stopped e =
       record {
-        answer = p ∙ ap (λ (x : Outcome A). x.answer) (sym e);
+        answer = ap (λ (x : Outcome A). x.answer) (sym e);
         cells = ap (λ (x : Outcome A). cells_after cells x.left) (sym e);
       }
 
-  pub called_done :
-      (s : State) (cells after : List ℕ) (r : A) → o ≡ outcome a (now s) → Holds after s → r ≡ a → Called o cells r after
-  called_done s cells after r e h p =
+  pub called_done : {s : State} {after : List ℕ} → o ≡ outcome a (now s) → Holds after s → Called o cells a after
+  called_done e h =
       record {
-        answer = p ∙ ap (λ (x : Outcome A). x.answer) (sym e);
+        answer = ap (λ (x : Outcome A). x.answer) (sym e);
         cells = left_cells cells h ∙ ap (λ (x : Outcome A). cells_after cells x.left) (sym e);
       }

@@ -7,9 +7,10 @@ use rules::limits::LONGEST_FILE;
 use rules::line::{Entry, Relocation};
 use rules::reading::{Part, Reading};
 use std::io::Print;
-use tables::cells::{PART_ROOM, ROW_ROOM, body_at, head_at};
+use tables::cells::{PART_ROOM, ROW_ROOM};
+use tables::iter::Parts;
 use tables::parts::part_of;
-use tables::rows::{FREE, MEMBER, SECTION, row_end, row_kind, row_line, row_start};
+use tables::rows::{RowKind, Tables};
 
 // What cannot be written is missed where the output is held to the stored one.
 pub fn say(rt: &impl Print, text: &[u8]) {
@@ -136,42 +137,35 @@ fn shown(n: usize, most: usize) -> usize
 }
 
 // The first n parts of a table.
-fn show_parts(rt: &impl Print, cells: &[u64], n: usize)
-    requires { n ≤ 30 }
-{
-    let mut i: usize = 0;
-    while i < n {
-        show_part(rt, part_of(head_at(cells, i), body_at(cells, i)));
-        i += 1;
+fn show_parts(rt: &impl Print, cells: &[u64], n: usize) {
+    for part in Parts::of(cells).take(n) {
+        show_part(rt, part_of(part.head, part.body));
     }
 }
 
-fn show_row(rt: &impl Print, rows: &[u64], i: usize)
+fn show_row(rt: &impl Print, tables: Tables, i: usize)
     requires { i ≤ 8 }
 {
-    let kind = row_kind(rows, i);
-    match kind {
-        FREE => say(rt, b"  module, line "),
-        MEMBER => say(rt, b"  library module, line "),
-        SECTION => say(rt, b"  section, line "),
-        _ => say(rt, b"  no row, line "),
+    match tables.kind(i) {
+        Some(RowKind::Free) => say(rt, b"  module, line "),
+        Some(RowKind::Member) => say(rt, b"  library module, line "),
+        Some(RowKind::Section) => say(rt, b"  section, line "),
+        None => say(rt, b"  no row, line "),
     }
-    decimal(rt, row_line(rows, i));
+    decimal(rt, tables.line(i));
     say(rt, b", from ");
-    decimal(rt, row_start(rows, i) as u64);
+    decimal(rt, tables.start(i) as u64);
     say(rt, b" to ");
-    decimal(rt, row_end(rows, i) as u64);
+    decimal(rt, tables.end(i) as u64);
     say(rt, b"\n");
 }
 
-// The first n rows of a table.
-fn show_rows(rt: &impl Print, cells: &[u64], n: usize)
+// The first n rows.
+fn show_rows(rt: &impl Print, tables: Tables, n: usize)
     requires { n ≤ 8 }
 {
-    let mut i: usize = 0;
-    while i < n {
-        show_row(rt, cells, i);
-        i += 1;
+    for i in 0..n {
+        show_row(rt, tables, i);
     }
 }
 
@@ -208,7 +202,7 @@ fn show_read(rt: &impl Print, file: &[u8], parts: &mut [u64; PART_ROOM], rows: &
     show_reading(rt, reading);
     show_counts(rt, r.parts, r.rows);
     show_parts(rt, parts, shown(r.parts, 30));
-    show_rows(rt, rows, shown(r.rows, 8));
+    show_rows(rt, Tables { parts, rows }, shown(r.rows, 8));
 }
 
 // One case: its label, then what its file came to.

@@ -1,13 +1,10 @@
-use Rattle.std.proofs.Common.{◌≡◌, ◌+◌, ◌-◌, ◌*◌, ◌≤◌, drop}
+use Rattle.std.proofs.Common.{◌≡◌, ◌+◌, ◌≤◌, drop}
 use Rattle.rules.specs.State.{placed_words}
 use Rattle.state.specs.Layout.{decode}
 use Rattle.image.proofs.image_length.Given as goal
 
-abbrev pub invariant-loop-a : goal.invariant-loop-a
-invariant-loop-a l =
-    (l.a ≤ 4096)
-    × (l.n ≤ 11 * l.a + 5)
-    × (l.n + 11 * placed_words (drop l.a (decode l.state).words) ≡ 11 * placed_words (decode l.state).words + 5)
-
-abbrev pub decreases-loop-a : goal.decreases-loop-a
-decreases-loop-a l = 4096 - l.a
+-- what is counted, and what the words from the address on will add
+abbrev pub invariant-loop-address : goal.invariant-loop-address
+invariant-loop-address l =
+    (l.words ≤ l.address)
+    × (l.words + placed_words (drop l.address (decode l.state).words) ≡ placed_words (decode l.state).words)

@@ -1,29 +1,24 @@
-use Rattle.std.proofs.Common.{arith}
+use Rattle.std.proofs.Common.{refl, rules, arith}
 use Rattle.state.specs.Layout.{decode}
-use Rattle.image.proofs.WriteLaws.{image_words, image_written, written_length}
+use Rattle.rules.specs.Image.{image_of}
+use Rattle.image.specs.Output.{Written}
+use Rattle.image.proofs.WriteLaws.{image_words, image_written, high_small, undefined_few}
 use Rattle.image.proofs.write_image.Goals as goal
 
-pub write_words-n-requires : goal.write_words-n-requires
-write_words-n-requires c = record { good = c.requires.good; state_in_bounds = omega (arith, c.requires.state_in_bounds, image_words (decode c.args.state.now)) }
+pub put_words-requires-clause-state_in_bounds : goal.put_words-requires-clause-state_in_bounds
+put_words-requires-clause-state_in_bounds c = omega (arith, c.requires.state_in_bounds, image_words (decode c.args.state.now))
+
+pub overflow_cast-high : goal.overflow_cast-high
+overflow_cast-high c = omega (arith, c.high.ensures, high_small (decode c.args.state.now).words (omega (arith, c.requires.good.tidy.full)))
+
+pub overflow_cast-undefined_count : goal.overflow_cast-undefined_count
+overflow_cast-undefined_count c = omega (arith, c.undefined_count.ensures, undefined_few (decode c.args.state.now).symbols, c.requires.good.tidy.few)
 
 pub put_end-requires : goal.put_end-requires
-put_end-requires c =
-    omega (
-      arith,
-      c.requires.state_in_bounds,
-      image_words (decode c.args.state.now),
-      c.write_words-n.ensures.behind,
-      written_length c.write_words-n.ensures (omega (arith, c.requires.state_in_bounds, image_words (decode c.args.state.now))),
-    )
-
-pub overflow_add-result : goal.overflow_add-result
-overflow_add-result c =
-    omega (
-      arith,
-      c.requires.state_in_bounds,
-      image_words (decode c.args.state.now),
-      c.write_words-n.ensures.behind,
-    )
+put_end-requires c = omega (arith, c.requires.state_in_bounds, image_words (decode c.args.state.now))
 
 pub returns : goal.returns
-returns c = image_written (decode c.args.state.now) c.args.out.now _ _ _ _ _ c.write_words-n.ensures c.high.ensures c.undefined_count-undefined.ensures c.put_end.ensures
+returns c =
+    let w : Written 0 (image_of (decode c.args.state.now)) c.args.out.now c.put_end.new.self.bytes.now c.put_end.new.self.at =
+    image_written (decode c.args.state.now) _ _ c.high.ensures c.undefined_count.ensures refl c.put_words.ensures c.put_end.ensures in
+    search (rules, w)
