@@ -3,7 +3,7 @@ use Prim.Native.Nat.{ℕ, ◌+◌, ◌/◌, ◌<◌, ◌≤◌}
 use native.Mathlib.Omega.{arith}
 use mathlib.Core.Bool.{Bool, true, false, cond, ◌||◌, or-true}
 use mathlib.Core.List.{List, [], ◌∷◌, map}
-use mathlib.Core.Path.{◌≡◌, refl, sym, ap, ap₂, ◌∙◌}
+use mathlib.Core.Path.{◌≡◌, refl, sym, ap, ap₂, ◌∙◌, subst}
 use lib.ListN.{length}
 use lib.Dec.{eqb, ltb, leb}
 use borrow.Author.Tests.{lt-ltb, le-ltb, leb-false, ltb-false}
@@ -170,18 +170,18 @@ module _ (x : PartCells) (ps : List Part) where
 -- ---- the loop
 
 module _ {base : ℕ} {whole : List Entry} {s₀ : State} where
-  pub enter_start : Entering base whole s₀ whole s₀
-  enter_start = record { number = refl; entered_is = refl }
+  pub enter_next : {left rest : List PartCells} {x : PartCells} → left ≡ x ∷ rest → {s : State} →
+      Entering base whole s₀ (entries_in (map part_at left)) s → {after : List ℕ} →
+      EnteredPart base (entries_in (part_at x ∷ map part_at rest)) s (entries_in (map part_at rest)) (Ok tt) after →
+      Entering base whole s₀ (entries_in (map part_at rest)) (decode after)
+  enter_next h {s} from p =
+      let l = subst (λ xs. Entering base whole s₀ (entries_in (map part_at xs)) s) h from in
+      record { number = p.on.number ∙ l.number; entered_is = p.on.entered_is ∙ l.entered_is }
 
-  module _ {here rest : List Entry} {s : State} (l : Entering base whole s₀ here s) {after : List ℕ} where
-    pub enter_next : EnteredPart base here s rest (Ok tt) after → Entering base whole s₀ rest (decode after)
-    enter_next p = record { number = p.on.number ∙ l.number; entered_is = p.on.entered_is ∙ l.entered_is }
-
-    pub enter_stop : {r : Reason} → EnteredPart base here s rest (Err r) after → Entered base whole s₀ (Err r) after
-    enter_stop p = record { number = p.stopped ∙ l.number; good = p.good; done = tt }
-
-  pub enter_done : (state : List ℕ) → Good state → Entering base whole s₀ [] (decode state) → Entered base whole s₀ (Ok tt) state
-  unfolding define_all twice any
-  enter_done state g e =
+  pub enter_done : {left : List PartCells} → left ≡ [] → (state : List ℕ) → Good state →
+      Entering base whole s₀ (entries_in (map part_at left)) (decode state) → Entered base whole s₀ (Ok tt) state
+  unfolding entries_in define_all twice any
+  enter_done h state g from =
+      let e : Entering base whole s₀ [] (decode state) = subst (λ xs. Entering base whole s₀ (entries_in (map part_at xs)) (decode state)) h from in
       let room : ltb 256 (length (decode state).symbols) ≡ false = le-ltb 256 _ g.tidy.few in
       record { number = sym (rw room) ∙ e.number; good = g; done = e.entered_is }

@@ -3,7 +3,7 @@ use Prim.Native.Nat.{ℕ, ◌+◌, ◌<◌, ◌≤◌}
 use native.Mathlib.Numerals.{add-one}
 use native.Mathlib.Omega.{arith}
 use mathlib.Core.Bool.{true, false}
-use mathlib.Core.List.{List, [], ◌∷◌, ◌++◌, append_assoc, append-nil}
+use mathlib.Core.List.{List, [], ◌∷◌, ◌++◌, map, append_assoc, append-nil}
 use mathlib.Core.Path.{◌≡◌, sym, ap, ap₂, subst, ◌∙◌}
 use lib.ListN.{length, set, take, length-set}
 use lib.Seq.{take-suc-set}
@@ -27,9 +27,16 @@ use Rattle.tables.proofs.HeadLaws.{externals_cons}
 use Rattle.placing.specs.Effects.{mentioned, positions_of, Mentioned, Mentioning}
 
 module _ (whole : List ℕ) (s₀ : State) (at : List ℕ) (n : ℕ) where
-  module _ (x : PartCells) (ps : List Part) (s : State) (l : Mentioning whole s₀ n at (externals_in (part_at x ∷ ps)) s) where
+  module _ {left behind : List PartCells} {x : PartCells} (h : left ≡ x ∷ behind) (s : State)
+      (from : Mentioning whole s₀ n at (externals_in (map part_at left)) s) where
+    abbrev ps : List Part
+    ps = map part_at behind
+
     abbrev rest : List ℕ
     rest = externals_in ps
+
+    l : Mentioning whole s₀ n at (externals_in (part_at x ∷ ps)) s
+    l = subst (λ xs. Mentioning whole s₀ n at (externals_in (map part_at xs)) s) h from
 
     pub mention_skip : is_external x.head ≡ false → Mentioning whole s₀ n at rest s
     mention_skip k = subst (λ xs. Mentioning whole s₀ n at xs s) (externals_cons x.head x.body ps ∙ rw k) l
@@ -79,9 +86,11 @@ module _ (whole : List ℕ) (s₀ : State) (at : List ℕ) (n : ℕ) where
             mentioned_is = ap (mentioned rest) is ∙ here.mentioned_is;
           }
 
-  pub mention_done : (state : List ℕ) → Good state → Mentioning whole s₀ n at [] (decode state) → Mentioned whole s₀ (Ok at) state
-  unfolding positions_of mention_all
-  mention_done state g e =
+  pub mention_done : {left : List PartCells} → left ≡ [] → (state : List ℕ) → Good state →
+      Mentioning whole s₀ n at (externals_in (map part_at left)) (decode state) → Mentioned whole s₀ (Ok at) state
+  unfolding externals_in positions_of mention_all
+  mention_done h state g from =
+      let e : Mentioning whole s₀ n at [] (decode state) = subst (λ xs. Mentioning whole s₀ n at (externals_in (map part_at xs)) (decode state)) h from in
       let table : (decode state).symbols ≡ mention_all whole s₀.symbols = ap (λ (v : State). v.symbols) e.mentioned_is in
       let all_of_them : n ≡ length whole = omega (arith, e.count) in
       record {

@@ -63,7 +63,13 @@ pub lay_table : {base : ℕ} {whole rest : List Code} {s₀ s : State} → Layin
 lay_table l = ap (λ (v : State). v.symbols) l.laid_is
 
 module _ (base : ℕ) (whole : List Code) (s₀ : State) where
-  module _ (x : PartCells) (ps : List Part) (s : State) (l : Laying base whole s₀ (code_in (part_at x ∷ ps)) s) where
+  module _ {left rest : List PartCells} {x : PartCells} (h : left ≡ x ∷ rest) (s : State) (from : Laying base whole s₀ (code_in (map part_at left)) s) where
+    abbrev ps : List Part
+    ps = map part_at rest
+
+    l : Laying base whole s₀ (code_in (part_at x ∷ ps)) s
+    l = subst (λ xs. Laying base whole s₀ (code_in (map part_at xs)) s) h from
+
     pub lay_skip : is_word x.head ≡ false → Laying base whole s₀ (code_in ps) s
     lay_skip k = subst (λ cs. Laying base whole s₀ cs s) (code_cons x.head x.body ps ∙ rw k) l
 
@@ -99,37 +105,46 @@ module _ (base : ℕ) (whole : List Code) (s₀ : State) where
             laid_is = rw e here.laid_is;
           })
 
-  pub lay_done : (state : List ℕ) → Good state → Laying base whole s₀ [] (decode state) → Laid base whole s₀ (Ok tt) state
-  unfolding plain_all clash
-  lay_done state g e = record { clash_is = e.clash_is; reason = tt; good = g; table_is = lay_table e; done = e.laid_is }
+  pub lay_done : {left : List PartCells} → left ≡ [] → (state : List ℕ) → Good state →
+      Laying base whole s₀ (code_in (map part_at left)) (decode state) → Laid base whole s₀ (Ok tt) state
+  unfolding code_in plain_all clash
+  lay_done h state g from =
+      let e : Laying base whole s₀ [] (decode state) = subst (λ xs. Laying base whole s₀ (code_in (map part_at xs)) (decode state)) h from in
+      record { clash_is = e.clash_is; reason = tt; good = g; table_is = lay_table e; done = e.laid_is }
 
 -- ---- linking the words
 
 module _ (base : ℕ) (at : List ℕ) where
-  link_cons : (x : PartCells) (ps : List Part) (ws : List Word) →
-      link_at base at (code_in (part_at x ∷ ps)) ws
-      ≡ link_at base at (code_in ps)
+  link_cons : (x : PartCells) (qs : List Part) (ws : List Word) →
+      link_at base at (code_in (part_at x ∷ qs)) ws
+      ≡ link_at base at (code_in qs)
       (cond (is_reference x.head) (set ws (base + address_of x.head) (refers x.body (get_or at (argument_of x.head - 1) 0))) ws)
   unfolding code_in link_at relink
-  link_cons x ps ws =
+  link_cons x qs ws =
       part_cases x.head x.body
       (λ p.
-      link_at base at (code_in (p ∷ ps)) ws
-      ≡ link_at base at (code_in ps)
+      link_at base at (code_in (p ∷ qs)) ws
+      ≡ link_at base at (code_in qs)
       (cond (is_reference x.head) (set ws (base + address_of x.head) (refers x.body (get_or at (argument_of x.head - 1) 0))) ws))
       (λ e. rw e) (λ e. rw e) (λ e. rw e) (λ e. rw e) (λ e. rw e) (λ e. rw e) (λ e. rw e) (λ e. rw e)
 
   module _ (n : ℕ) (whole : List Code) (s₀ : State) where
-    module _ (x : PartCells) (ps : List Part) (s : State)
-        (l : Linking base n at whole s₀ (code_in (part_at x ∷ ps)) s) where
-      good_numbers : (is_bad n x.head ≡ false) × (any (bad_code n) (code_in ps) ≡ false)
-      good_numbers = or_off _ _ (sym (bad_cons x ps n) ∙ l.arguments)
+    module _ {left rest : List PartCells} {x : PartCells} (h : left ≡ x ∷ rest) (s : State)
+        (from : Linking base n at whole s₀ (code_in (map part_at left)) s) where
+      abbrev qs : List Part
+      qs = map part_at rest
 
-      pub link_skip : is_reference x.head ≡ false → Linking base n at whole s₀ (code_in ps) s
+      turn : Linking base n at whole s₀ (code_in (part_at x ∷ qs)) s
+      turn = subst (λ xs. Linking base n at whole s₀ (code_in (map part_at xs)) s) h from
+
+      good_numbers : (is_bad n x.head ≡ false) × (any (bad_code n) (code_in qs) ≡ false)
+      good_numbers = or_off _ _ (sym (bad_cons x qs n) ∙ turn.arguments)
+
+      pub link_skip : is_reference x.head ≡ false → Linking base n at whole s₀ (code_in qs) s
       link_skip k =
           record {
-            relinked_is = ap (λ ws. with_words ws s) (sym (link_cons x ps s.words ∙ rw k)) ∙ l.relinked_is;
-            table_is = l.table_is;
+            relinked_is = ap (λ ws. with_words ws s) (sym (link_cons x qs s.words ∙ rw k)) ∙ turn.relinked_is;
+            table_is = turn.table_is;
             arguments = good_numbers.1;
           }
 
@@ -142,16 +157,19 @@ module _ (base : ℕ) (at : List ℕ) where
 
         pub link_put : (d : ℕ) → d ≡ address_of x.head → (s' : State) →
             s' ≡ with_words (set s.words (base + d) (refers x.body (get_or at (number - 1) 0))) s →
-            Linking base n at whole s₀ (code_in ps) s'
+            Linking base n at whole s₀ (code_in qs) s'
         link_put d q s' u =
-            subst (Linking base n at whole s₀ (code_in ps)) (sym u)
+            subst (Linking base n at whole s₀ (code_in qs)) (sym u)
             (record {
               relinked_is =
-                  ap (λ ws. with_words ws s) (sym (link_cons x ps s.words ∙ rw (k, ← e, ← q))) ∙ l.relinked_is;
-              table_is = l.table_is;
+                  ap (λ ws. with_words ws s) (sym (link_cons x qs s.words ∙ rw (k, ← e, ← q))) ∙ turn.relinked_is;
+              table_is = turn.table_is;
               arguments = good_numbers.1;
             })
 
-    pub link_done : (state : List ℕ) → Good state → Linking base n at whole s₀ [] (decode state) → Holds state (relinked base at whole s₀)
-    unfolding link_at
-    link_done state g e = record { good = g; is = e.relinked_is }
+    pub link_done : {left : List PartCells} → left ≡ [] → (state : List ℕ) → Good state →
+        Linking base n at whole s₀ (code_in (map part_at left)) (decode state) → Holds state (relinked base at whole s₀)
+    unfolding code_in link_at
+    link_done h state g from =
+        let e : Linking base n at whole s₀ [] (decode state) = subst (λ xs. Linking base n at whole s₀ (code_in (map part_at xs)) (decode state)) h from in
+        record { good = g; is = e.relinked_is }

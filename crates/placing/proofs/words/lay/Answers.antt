@@ -1,9 +1,5 @@
-use mathlib.Core.List.{map}
-use mathlib.Core.Path.{refl, sym, subst, ◌∙◌}
-use Rattle.rules.specs.Placing.{code_in}
+use mathlib.Core.Path.{refl, sym, ◌∙◌}
 use Rattle.state.specs.Layout.{decode}
-use Rattle.tables.specs.Iter.{part_at, parts_in}
-use Rattle.placing.specs.Effects.{Laying}
 use Rattle.placing.proofs.WordLaws.{lay_skip, lay_clash, lay_put, lay_done}
 use Rattle.placing.proofs.words.lay.Goals as goal
 
@@ -11,27 +7,22 @@ pub returns-then-is_placed : goal.returns-then-is_placed
 returns-then-is_placed c =
     let a = c.args in
     let l = c.loop-part in
-    let here = subst (λ xs. Laying a.base (code_in (parts_in a.parts)) (decode a.state.now) (code_in (map part_at xs)) (decode l.state)) c.in-Some.ensures.steps l.invariant.3 in
-    lay_clash a.base _ _ c.in-Some.part (parts_in c.next.new.self) _ here (sym c.is_word.ensures ∙ c.if-is_word.true) c.address.result c.address.ensures c.is_placed.result c.is_placed.ensures c.if-is_placed.true l.invariant.2 refl
+    lay_clash a.base _ _ c.in-Some.ensures.steps _ l.invariant.3 (sym c.is_word.ensures ∙ c.if-is_word.true) c.address.result c.address.ensures c.is_placed.result c.is_placed.ensures c.if-is_placed.true l.invariant.2 refl
 
 pub loop-part-preserved-then-is_word : goal.loop-part-preserved-then-is_word
 loop-part-preserved-then-is_word c =
     let a = c.args in
     let l = c.loop-part in
-    let here = subst (λ xs. Laying a.base (code_in (parts_in a.parts)) (decode a.state.now) (code_in (map part_at xs)) (decode l.state)) c.in-Some.ensures.steps l.invariant.3 in
-    (tt, tt, c.put_plain.ensures.good, lay_put a.base _ _ c.in-Some.part (parts_in c.next.new.self) _ here (sym c.is_word.ensures ∙ c.if-is_word.true) c.address.result c.address.ensures c.is_placed.result c.is_placed.ensures c.if-is_placed.false (decode c.put_plain.new.state) c.put_plain.ensures.is)
+    (tt, tt, c.put_plain.ensures.good, lay_put a.base _ _ c.in-Some.ensures.steps _ l.invariant.3 (sym c.is_word.ensures ∙ c.if-is_word.true) c.address.result c.address.ensures c.is_placed.result c.is_placed.ensures c.if-is_placed.false (decode c.put_plain.new.state) c.put_plain.ensures.is)
 
 pub loop-part-preserved : goal.loop-part-preserved
 loop-part-preserved c =
     let a = c.args in
     let l = c.loop-part in
-    let here = subst (λ xs. Laying a.base (code_in (parts_in a.parts)) (decode a.state.now) (code_in (map part_at xs)) (decode l.state)) c.in-Some.ensures.steps l.invariant.3 in
-    (tt, tt, l.invariant.2, lay_skip a.base _ _ c.in-Some.part (parts_in c.next.new.self) _ here (sym c.is_word.ensures ∙ c.if-is_word.false))
+    (tt, tt, l.invariant.2, lay_skip a.base _ _ c.in-Some.ensures.steps _ l.invariant.3 (sym c.is_word.ensures ∙ c.if-is_word.false))
 
 pub returns : goal.returns
-unfolding code_in
 returns c =
     let a = c.args in
     let l = c.loop-part in
-    let here = subst (λ xs. Laying a.base (code_in (parts_in a.parts)) (decode a.state.now) (code_in (map part_at xs)) (decode l.state)) c.in-None.ensures.steps.0 l.invariant.3 in
-    lay_done a.base _ _ l.state l.invariant.2 here
+    lay_done a.base _ _ c.in-None.ensures.steps.0 l.state l.invariant.2 l.invariant.3

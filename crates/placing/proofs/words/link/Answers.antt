@@ -1,12 +1,10 @@
 use native.Mathlib.Omega.{arith}
 use Prim.Native.Nat.{ℕ, ◌-◌, ◌≤◌, ◌<◌}
-use mathlib.Core.List.{map}
-use mathlib.Core.Path.{sym, ap, subst, ◌∙◌}
+use mathlib.Core.Path.{sym, ap, ◌∙◌}
 use lib.ListN.{length, get_or}
-use Rattle.rules.specs.Placing.{externals_in, code_in}
+use Rattle.rules.specs.Placing.{externals_in}
 use Rattle.state.specs.Layout.{decode}
-use Rattle.tables.specs.Iter.{part_at, parts_in}
-use Rattle.placing.specs.Effects.{Linking}
+use Rattle.tables.specs.Iter.{parts_in}
 use Rattle.placing.proofs.WordLaws.{link_number, link_skip, link_put, link_done}
 use Rattle.placing.proofs.words.link.Goals as goal
 use Rattle.placing.proofs.words.link.Goals.{After-argument}
@@ -18,8 +16,7 @@ number : (c : After-argument) →
 number c =
     let a = c.args in
     let l = c.loop-part in
-    let here = subst (λ xs. Linking a.base (length (externals_in (parts_in a.parts))) a.at.now (code_in (parts_in a.parts)) (decode a.state.now) (code_in (map part_at xs)) (decode l.state)) c.in-Some.ensures.steps l.invariant.3 in
-    link_number a.base a.at.now _ _ _ c.in-Some.part (parts_in c.next.new.self) _ here (sym c.is_reference.ensures ∙ c.if-is_reference.true) c.argument.result c.argument.ensures
+    link_number a.base a.at.now _ _ _ c.in-Some.ensures.steps _ l.invariant.3 (sym c.is_reference.ensures ∙ c.if-is_reference.true) c.argument.result c.argument.ensures
 
 -- and its position is in the table
 there : (c : After-argument) → get_or c.args.at.now (c.argument.result - 1) 0 < length (decode c.args.state.now).symbols
@@ -39,20 +36,16 @@ pub loop-part-preserved-then-is_reference : goal.loop-part-preserved-then-is_ref
 loop-part-preserved-then-is_reference c =
     let a = c.args in
     let l = c.loop-part in
-    let here = subst (λ xs. Linking a.base (length (externals_in (parts_in a.parts))) a.at.now (code_in (parts_in a.parts)) (decode a.state.now) (code_in (map part_at xs)) (decode l.state)) c.in-Some.ensures.steps l.invariant.3 in
-    (tt, tt, c.put_reference.ensures.good, link_put a.base a.at.now _ _ _ c.in-Some.part (parts_in c.next.new.self) _ here (sym c.is_reference.ensures ∙ c.if-is_reference.true) c.argument.result c.argument.ensures c.address.result c.address.ensures (decode c.put_reference.new.state) c.put_reference.ensures.is)
+    (tt, tt, c.put_reference.ensures.good, link_put a.base a.at.now _ _ _ c.in-Some.ensures.steps _ l.invariant.3 (sym c.is_reference.ensures ∙ c.if-is_reference.true) c.argument.result c.argument.ensures c.address.result c.address.ensures (decode c.put_reference.new.state) c.put_reference.ensures.is)
 
 pub loop-part-preserved : goal.loop-part-preserved
 loop-part-preserved c =
     let a = c.args in
     let l = c.loop-part in
-    let here = subst (λ xs. Linking a.base (length (externals_in (parts_in a.parts))) a.at.now (code_in (parts_in a.parts)) (decode a.state.now) (code_in (map part_at xs)) (decode l.state)) c.in-Some.ensures.steps l.invariant.3 in
-    (tt, tt, l.invariant.2, link_skip a.base a.at.now _ _ _ c.in-Some.part (parts_in c.next.new.self) _ here (sym c.is_reference.ensures ∙ c.if-is_reference.false))
+    (tt, tt, l.invariant.2, link_skip a.base a.at.now _ _ _ c.in-Some.ensures.steps _ l.invariant.3 (sym c.is_reference.ensures ∙ c.if-is_reference.false))
 
 pub returns : goal.returns
-unfolding code_in
 returns c =
     let a = c.args in
     let l = c.loop-part in
-    let here = subst (λ xs. Linking a.base (length (externals_in (parts_in a.parts))) a.at.now (code_in (parts_in a.parts)) (decode a.state.now) (code_in (map part_at xs)) (decode l.state)) c.in-None.ensures.steps.0 l.invariant.3 in
-    link_done a.base a.at.now _ _ _ l.state l.invariant.2 here
+    link_done a.base a.at.now _ _ _ c.in-None.ensures.steps.0 l.state l.invariant.2 l.invariant.3
