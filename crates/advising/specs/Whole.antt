@@ -1,10 +1,8 @@
 -- What is asked of a file's whole lines.
 use Rattle.std.specs.Prelude.{ℕ, ◌≤◌, List, ◌≡◌, take}
 use Rattle.rules.specs.Text.{lines_of}
-use Rattle.rules.specs.Reading.{unread, if_complete, read_lines}
+use Rattle.rules.specs.Reading.{unread, if_complete, read_lines, Reading, Complete}
 use Rattle.rules.specs.Feed.{whole_lines, fault_so_far}
-use Rattle.rules.specs.declared.reading.Reading.{Reading}
-use Rattle.rules.specs.declared.reading.Reading.TheVariants.{Complete}
 
 -- the whole lines of the first n bytes are the first r
 pub record LinesEnd (file : List ℕ) (n r : ℕ) : Type 0 where

@@ -4,10 +4,9 @@
 
 ghost use Rattle.std.specs.Prelude.{◌≤◌, ◌≡◌, length, take};
 ghost use Rattle.rules.specs.Limits.{longest_file};
-ghost use Rattle.reading.specs.Lines.{told};
 ghost use Rattle.advising.specs.Whole.{LinesEnd, early_fault};
 
-use reading::{Place, Reached, read_on};
+use reading::{Place, read_on};
 use rules::reading::Reading;
 use steps::modes::at_start;
 use text::scan::LF;
@@ -27,23 +26,6 @@ pub fn lines_end(file: &[u8], n: usize) -> usize
     0
 }
 
-fn tell(reached: Reached) -> Reading
-    ensures { result ≡ told reached }
-{
-    match reached {
-        Reached::Clean { mode, line } => Reading::Complete,
-        Reached::Fault {
-            number,
-            line,
-            column,
-        } => Reading::Stopped {
-            number,
-            line,
-            column,
-        },
-    }
-}
-
 // The first fault of the lines up to `end`, where the whole lines of the first `old` bytes have none.
 pub fn early_fault(file: &[u8], old: usize, end: usize) -> Reading
     requires { (old ≤ end) × (end ≤ length file.now) × (end ≤ longest_file) }
@@ -55,20 +37,14 @@ pub fn early_fault(file: &[u8], old: usize, end: usize) -> Reading
         line: 1,
         mode: at_start(),
     };
-    let before = read_on(&file[..done], start);
-    match before {
-        Reached::Fault {
-            number,
-            line,
-            column,
-        } => Reading::Complete,
-        Reached::Clean { mode, line } => tell(read_on(
-            &file[..end],
-            Place {
-                at: done,
-                line,
-                mode,
-            },
-        )),
-    }
+    // A fault that stands in the old lines has been told.
+    let Ok(before) = read_on(&file[..done], start) else {
+        return Ok(());
+    };
+    let behind = Place {
+        at: done,
+        line: before.line,
+        mode: before.mode,
+    };
+    read_on(&file[..end], behind).map(|_| ())
 }

@@ -6,7 +6,7 @@ use mathlib.Core.Path.{◌≡◌, ap, subst, ◌∙◌}
 use lib.ListN.{length}
 use borrow.Author.Tests.{eq-eqb}
 use Rattle.rules.specs.Limits.{work_size}
-use Rattle.rules.specs.Reading.{Module, section, reading_of, items_of}
+use Rattle.rules.specs.Reading.{Module, section, reading_of, items_of, Stopped}
 use Rattle.rules.specs.State.{State, broken, marked}
 use Rattle.rules.specs.Load.{refusal, walking, searched, walk_from, loaded, load_read, load_read_over, load_file, load_file_over}
 use Rattle.rules.specs.Calls.{holding, Outcome, load_outcome, load, symbol_at, symbols}
@@ -14,7 +14,6 @@ use Rattle.rules.specs.History.{work_fits}
 use Rattle.rules.specs.declared.answer.LoadAnswer.{LoadAnswer}
 use Rattle.rules.specs.Demand.{LeastSufficient, LeastAtEach}
 use Rattle.rules.specs.declared.answer.SymbolAnswer.{SymbolAnswer}
-use Rattle.rules.specs.declared.reading.Reading.TheVariants.{Stopped}
 use Rattle.rules.proofs.OrderLaws.{load_reads, columns_named}
 use Rattle.rules.proofs.ToldLaws.{leftmost_told}
 use Rattle.rules.proofs.Demand3.{library_least}

@@ -6,6 +6,7 @@ use mathlib.Core.List.{List, [], ◌∷◌, ◌++◌, append-nil}
 use mathlib.Core.Path.{◌≡◌, refl, ap, subst, ◌∙◌}
 use lib.ListN.{length}
 use borrow.Author.Tests.{le-ltb}
+use Rattle.std.specs.Prelude.{Err}
 use Rattle.rules.specs.Limits.{longest_piece}
 use Rattle.rules.specs.Text.{all}
 use Rattle.rules.specs.Answers.{DONE}
@@ -22,9 +23,8 @@ use Rattle.feed.specs.Promise.{FeedCalled, Closed}
 use Rattle.feed.specs.Sequence.{stop, step}
 use Rattle.feed.proofs.Claims.{zero_sound, left_sound, as_one_load, feed_zero, advice_told}
 use Rattle.rules.proofs.FeedLaws.{no_fault, told_is}
-use Rattle.rules.specs.declared.reading.Reading.{Reading}
-use Rattle.rules.specs.declared.reading.Reading.TheVariants.{Complete, Stopped}
 use Rattle.customers.specs.Pieces.{LoadedInTwo, Tried}
+use Rattle.rules.specs.Reading.{Reading, Complete}
 
 two_joined : (p q : List ℕ) → length p ≤ longest_piece → length q ≤ longest_piece → joined (p ∷ q ∷ []) ≡ p ++ q
 unfolding joined
@@ -63,7 +63,7 @@ module _
 done_told : (f : Reading) → (advised f).number ≡ DONE
 unfolding advised
 done_told Complete = refl
-done_told (Stopped k n c) = refl
+done_told (Err s) = refl
 
 -- a drop where a load is open
 drops : (m : LentOf Feed) (bs : List ℕ) → m ≡ holding (fed bs) → drop_feed m ≡ feed_done shut

@@ -5,7 +5,7 @@ use Rattle.rules.specs.Limits.{longest_file, work_size}
 use Rattle.rules.specs.Text.{lines_of, is_letter_or_digit, is_name, pack_name}
 use Rattle.rules.specs.Answers.{is_line_fault}
 use Rattle.rules.specs.Faults.{fault_number, faults_of, leftmost}
-use Rattle.rules.specs.Reading.{Module, section, unread as nothing_read, read_lines, reading_of, items_of}
+use Rattle.rules.specs.Reading.{Module, section, unread as nothing_read, read_lines, reading_of, items_of, Complete, Stopped}
 use Rattle.rules.specs.State.{State, state, unmarked, no_words, placed_words}
 use Rattle.rules.specs.Lookup.{name_at}
 use Rattle.rules.specs.Load.{progress, walking, searched, walk_from, taken_in, sections_in}
@@ -14,7 +14,6 @@ use Rattle.rules.specs.Calls.{holding, work_after, load_answer, load_over, call_
 use Rattle.rules.specs.Demand.{LeastSufficient}
 use Rattle.rules.specs.History.{resetting, loading, ending, of_call, of_load, of_end, work_fits}
 use Rattle.rules.specs.declared.line.Fault.{Fault}
-use Rattle.rules.specs.declared.reading.Reading.TheVariants.{Complete, Stopped}
 use Rattle.rules.specs.declared.answer.LoadAnswer.{LoadAnswer}
 use Rattle.rules.specs.declared.answer.CallAnswer.{CallAnswer}
 use Rattle.rules.specs.declared.answer.SymbolAnswer.{SymbolAnswer}

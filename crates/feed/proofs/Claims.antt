@@ -9,6 +9,7 @@ use mathlib.Core.Path.{◌≡◌, refl, sym, ap, ap₂, subst, ◌∙◌}
 use lib.ListN.{length, length-append}
 use lib.Dec.{ltb}
 use borrow.Author.Tests.{ltb-true, ltb-false, lt-ltb, le-ltb}
+use Rattle.std.specs.Prelude.{Err}
 use Rattle.rules.specs.Limits.{longest_file, longest_piece}
 use Rattle.rules.specs.Text.{all}
 use Rattle.rules.specs.Answers.{DONE, FEED}
@@ -18,8 +19,6 @@ use Rattle.rules.specs.History.{of_load, loading, work_fits}
 use Rattle.rules.specs.declared.answer.CallAnswer.{CallAnswer}
 use Rattle.rules.specs.declared.answer.FeedAnswer.{FeedAnswer}
 use Rattle.rules.specs.declared.answer.LoadAnswer.{LoadAnswer}
-use Rattle.rules.specs.declared.reading.Reading.{Reading}
-use Rattle.rules.specs.declared.reading.Reading.TheVariants.{Complete, Stopped}
 use Rattle.rules.proofs.TestLaws.{and_intro, and_left, and_right}
 use Rattle.rules.proofs.FeedLaws.{kept_few, fed_so_far, piece_left, long_left, close_is_load, Within, no_fault, told_once}
 use Rattle.state.specs.Layout.{zeros, lent}
@@ -30,6 +29,7 @@ use Rattle.feed.specs.Layout.{feed_size, encode_feed, lent_feed, feed_cells_afte
 use Rattle.feed.specs.Promise.{FeedCalled, Closed}
 use Rattle.feed.specs.Sequence.{Fed, stop, step, Bytes, Taken, LeftByPieces}
 use Rattle.feed.proofs.FeedLaws.{lent_encode_feed, held_feed, sound_shut, sound_kept, small_append, fed_kept, fed_small}
+use Rattle.rules.specs.Reading.{Reading, Complete}
 
 -- ---- an opening that is answered DONE
 
@@ -197,7 +197,7 @@ record Feeds (cells : List ℕ) (ps : List (List ℕ)) : Type 0 where
 done_told : (f : Reading) → (advised f).number ≡ DONE
 unfolding advised
 done_told Complete = refl
-done_told (Stopped k n c) = refl
+done_told (Err s) = refl
 
 taken_done : (m : LentOf Feed) (bs p : List ℕ) → m ≡ fed_so_far bs → length p ≤ longest_piece → (feed_piece m p).answer.number ≡ DONE
 unfolding feed_piece take_piece

@@ -9,14 +9,13 @@ use lib.ListN.{length, get_or, set, take, drop, replicate, length-append, drop_o
 use lib.Seq.{take-take, take-length, take-append-add, length-take-le}
 use lib.Dec.{leb}
 use borrow.Author.Tests.{eq-eqb, ne_eqb, lt-ltb, le-ltb, le-leb, lt-leb}
+use Rattle.std.specs.Prelude.{Err}
 use Rattle.rules.specs.Limits.{longest_file, work_size}
 use Rattle.rules.specs.Text.{all, lines_of}
-use Rattle.rules.specs.Reading.{unread, if_complete, read_lines}
+use Rattle.rules.specs.Reading.{unread, if_complete, read_lines, Reading, Complete}
 use Rattle.rules.specs.Calls.{LentOf, wrong_length, damaged, holding, as_before, now, Lent, load_answer, load, work_after}
 use Rattle.rules.specs.Feed.{Feed, shut, fed, too_many, is_byte, sound_feed, whole_lines, fault_so_far, advice, FeedOutcome, feed_outcome, feed_stopped, feed_done, open_feed, feed_answer, piece_stopped, advised, take_piece, feed_piece, drop_feed, close_outcome, close_stopped, close_feed}
 use Rattle.rules.specs.declared.answer.LoadAnswer.{LoadAnswer}
-use Rattle.rules.specs.declared.reading.Reading.{Reading}
-use Rattle.rules.specs.declared.reading.Reading.TheVariants.{Complete, Stopped}
 use Rattle.rules.proofs.WholeLaws.{whole_none, whole_some}
 use Rattle.state.specs.Layout.{zeros, cells_after}
 use Rattle.state.specs.Promise.{LoadCalled}
@@ -223,7 +222,7 @@ module _ (cells : List ℕ) (s : Sound cells) where
 same_either : (f : Reading) → if_complete f f Complete ≡ Complete
 unfolding if_complete
 same_either Complete = refl
-same_either (Stopped k n c) = refl
+same_either (Err s) = refl
 
 module _ (cells : List ℕ) (old : ℕ) (piece : List ℕ) (h : old + length piece ≤ 65536)
     (put : bytes_in cells (old + length piece) ≡ bytes_in cells old ++ piece) where

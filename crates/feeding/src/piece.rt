@@ -30,16 +30,12 @@ fn advised(reading: Reading) -> FeedAnswer
     ensures { result ≡ advised reading }
 {
     match reading {
-        Reading::Complete => piece_answer(DONE),
-        Reading::Stopped {
-            number,
-            line,
-            column,
-        } => FeedAnswer {
+        Ok(_) => piece_answer(DONE),
+        Err(stop) => FeedAnswer {
             number: DONE,
-            advice: number,
-            line: line as u64,
-            column: column as u64,
+            advice: stop.number,
+            line: stop.line as u64,
+            column: stop.column as u64,
         },
     }
 }

@@ -7,12 +7,11 @@ use mathlib.Core.Path.{◌≡◌, refl, sym, ap, subst, ◌∙◌}
 use lib.ListN.{length, drop, replicate, drop_of_length-le}
 use lib.Dec.{eqb}
 use borrow.Author.Tests.{eq-eqb, ne_eqb, lt-ltb, le-ltb}
-use Rattle.rules.specs.Reading.{Item, reading_of, items_of}
+use Rattle.rules.specs.Reading.{Item, reading_of, items_of, Complete, Stopped}
 use Rattle.rules.specs.State.{State, marked, broken}
 use Rattle.rules.specs.Load.{walking, Progress, progress, walk_items, Loaded, walked, walk_from, load_read, load_read_over, load_file, load_file_over}
 use Rattle.rules.specs.Calls.{holding, Outcome, load_answer, load_stopped, load_outcome, load_state_over, load_lent, load_lent_over, load, load_over, shut_by, work_after}
 use Rattle.rules.specs.declared.answer.LoadAnswer.{LoadAnswer}
-use Rattle.rules.specs.declared.reading.Reading.TheVariants.{Complete, Stopped}
 use Rattle.state.specs.Layout.{lent, encode, decode, cells_after}
 use Rattle.state.specs.Good.{Holds}
 use Rattle.state.proofs.LentLaws.{held_cells}

@@ -17,7 +17,6 @@ use cells::{clear, copy};
 use reading::read_file;
 use rules::answer::{BUFFER, DONE, LoadAnswer, TOO_LONG};
 use rules::limits::LONGEST_FILE;
-use rules::reading::Reading;
 use soundness::memory::refusal;
 use state::header::{set_mark, shut_by};
 use state::layout::{BROKEN, SIZE};
@@ -66,15 +65,11 @@ fn load_file(state: &mut [u64], work: &mut [u64], file: &[u8]) -> LoadAnswer
     let f = read_file(file, work, &mut rows);
     let reading = f.reading;
     match reading {
-        Reading::Stopped {
-            number,
-            line,
-            column,
-        } => {
+        Err(stop) => {
             set_mark(state, BROKEN);
-            answer(number, line as u64, column as u64, 0)
+            answer(stop.number, stop.line as u64, stop.column as u64, 0)
         }
-        Reading::Complete => walk_file(work, &rows, f.rows, state),
+        Ok(_) => walk_file(work, &rows, f.rows, state),
     }
 }
 

@@ -5,15 +5,14 @@ use mathlib.Core.List.{List, [], ◌∷◌, ◌++◌}
 use mathlib.Core.Path.{◌≡◌, refl, sym, ap, subst, ◌∙◌}
 use native.Mathlib.Omega.{arith}
 use lib.ListN.{length}
+use Rattle.std.specs.Prelude.{Ok, Err}
 use Rattle.rules.specs.Text.{is_name_character}
-use Rattle.rules.specs.Reading.{at_start, step_at, Module, Item, free, section, module_at, ReadSoFar, read_so_far, unread, module_done, stepped, if_complete, read_lines, read_lines_over, read_line_over}
+use Rattle.rules.specs.Reading.{at_start, step_at, Module, Item, free, section, module_at, ReadSoFar, read_so_far, unread, module_done, stepped, if_complete, read_lines, read_lines_over, read_line_over, Reading, Complete, Stopped}
 use Rattle.rules.specs.declared.line.Expected.{Expected}
 use Rattle.rules.specs.declared.reading.Mode.{Mode}
 use Rattle.rules.specs.declared.reading.Part.{Part}
 use Rattle.rules.specs.declared.reading.Step.{Step}
 use Rattle.rules.specs.declared.reading.Step.TheVariants.{Stop, Next, Add, CloseModule, CloseSection}
-use Rattle.rules.specs.declared.reading.Reading.{Reading}
-use Rattle.rules.specs.declared.reading.Reading.TheVariants.{Complete, Stopped}
 use Rattle.rules.proofs.FirstFault.{lines_after}
 use Rattle.rules.proofs.FoldLaws.{on_step, read_from}
 use Rattle.rules.proofs.TestLaws.{Every}
@@ -22,9 +21,7 @@ use Rattle.runs.specs.declared.Run.{Run}
 use Rattle.rules.proofs.BoolLaws.{never}
 use Rattle.runs.specs.Modes.{one_done, after_records, room_for}
 use Rattle.runs.proofs.ModeLaws.{Does, adds, goes, record_step, room_behind, after_front}
-use Rattle.reading.specs.Lines.{gone_on, go_on, told, ended_at, RunFrom}
-use Rattle.reading.specs.declared.Reached.{Reached}
-use Rattle.reading.specs.declared.Reached.TheVariants.{Clean}
+use Rattle.reading.specs.Lines.{Reached, gone_on, go_on, told, ended_at, RunFrom}
 
 -- ---- the fault
 
@@ -62,29 +59,28 @@ pub lines_fault : (ls : List (List ℕ)) → (read_lines unread ls).fault ≡ to
 unfolding unread
 lines_fault ls = fold_fault ls 1 at_start [] [] []
 
--- ---- lines behind clean ones
+-- ---- lines behind others
 
-module _ (m' : Mode) (n' : ℕ) where
-  step_on :
-      (n : ℕ) (a : Step) (go on : Mode → Reached) (r : Reached)
-      → ((m : Mode) → go m ≡ Clean m' n' → on m ≡ r) → gone_on n a go ≡ Clean m' n' → gone_on n a on ≡ r
-  unfolding gone_on
-  step_on n (Stop k c) go on r f e = let z : ◌≡◌ {A = ℕ} 0 1 = cc in absurd (omega arith)
-  step_on n (Next m) go on r f e = f m e
-  step_on n (Add m p) go on r f e = f m e
-  step_on n (CloseModule m line) go on r f e = f m e
-  step_on n (CloseSection m line) go on r f e = f m e
+-- what they come to, where those in front of them come to this
+unfoldable pub behind : Reached → List (List ℕ) → Reached
+behind (Ok c) ks = go_on c.line c.mode ks
+behind (Err s) ks = Err s
 
-  pub go_append :
-      (ls ks : List (List ℕ)) (n : ℕ) (m : Mode) → go_on n m ls ≡ Clean m' n' → go_on n m (ls ++ ks) ≡ go_on n' m' ks
-  unfolding go_on
-  go_append [] ks n m e =
-      let same : m ≡ m' = cc in
-      let line : n ≡ n' = cc in
-      rw (same, line)
-  go_append (l ∷ ls) ks n m e =
-      step_on n (step_at n m l) (λ m₁. go_on (n + 1) m₁ ls) (λ m₁. go_on (n + 1) m₁ (ls ++ ks)) (go_on n' m' ks)
-      (λ m₁ q. go_append ls ks (n + 1) m₁ q) e
+step_on :
+    (n : ℕ) (a : Step) (go on : Mode → Reached) (ks : List (List ℕ))
+    → ((m : Mode) → on m ≡ behind (go m) ks) → gone_on n a on ≡ behind (gone_on n a go) ks
+unfolding gone_on behind
+step_on n (Stop k c) go on ks f = refl
+step_on n (Next m) go on ks f = f m
+step_on n (Add m p) go on ks f = f m
+step_on n (CloseModule m line) go on ks f = f m
+step_on n (CloseSection m line) go on ks f = f m
+
+pub go_append : (ls ks : List (List ℕ)) (n : ℕ) (m : Mode) → go_on n m (ls ++ ks) ≡ behind (go_on n m ls) ks
+unfolding go_on behind
+go_append [] ks n m = refl
+go_append (l ∷ ls) ks n m =
+    step_on n (step_at n m l) (λ k. go_on (n + 1) k ls) (λ k. go_on (n + 1) k (ls ++ ks)) ks (go_append ls ks (n + 1))
 
 -- ---- the end of the file
 

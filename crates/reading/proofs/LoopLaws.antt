@@ -8,7 +8,7 @@ use lib.ListN.{length, drop, get_or, length-append}
 use lib.Seq.{drop-cons}
 use Rattle.rules.specs.Text.{LF, lines_of}
 use Rattle.rules.specs.Line.{code_word, line_answer}
-use Rattle.rules.specs.Reading.{at_start, record_done, word_part, step_of, step_at}
+use Rattle.rules.specs.Reading.{at_start, record_done, word_part, step_of, step_at, Reading}
 use Rattle.rules.specs.Calls.{overwritten}
 use Rattle.rules.specs.declared.line.CodeWord.{CodeWord}
 use Rattle.rules.specs.declared.line.Expected.TheVariants.{CodeRecord}
@@ -16,7 +16,6 @@ use Rattle.rules.specs.declared.line.LineAnswer.{LineAnswer}
 use Rattle.rules.specs.declared.line.Relocation.TheVariants.{Plain}
 use Rattle.rules.specs.declared.reading.Mode.{Mode}
 use Rattle.rules.specs.declared.reading.Part.{Part}
-use Rattle.rules.specs.declared.reading.Reading.{Reading}
 use Rattle.rules.specs.declared.reading.Step.{Step}
 use Rattle.rules.specs.declared.reading.Step.TheVariants.{Stop, Next, Add, CloseModule, CloseSection}
 use Rattle.rules.proofs.LineEndLaws.{line_LF}
@@ -32,9 +31,8 @@ use Rattle.usual.specs.Words.{WordRead}
 use Rattle.usual.specs.declared.UsualWord.{UsualWord}
 use Rattle.reading.specs.TwoTables.{Tables, empty, add_part, add_module, add_section, emit, tables_from, tables_of}
 use Rattle.reading.specs.Filling.{filled_of, parts_in, rows_in, PartRoom, RowRoom, Fills, Lent, file_read, ReadInto}
-use Rattle.reading.specs.Lines.{gone_on, go_on, line_in, ended_at, reached_from, lines_read, RunFrom, Begins, TablesKept, LinesInto}
+use Rattle.reading.specs.Lines.{clean, fault, gone_on, go_on, line_in, ended_at, reached_from, lines_read, RunFrom, Begins, TablesKept, LinesInto}
 use Rattle.reading.specs.declared.Place.{Place}
-use Rattle.reading.specs.declared.Reached.TheVariants.{Clean, Fault}
 use Rattle.reading.specs.declared.FileRead.{FileRead}
 use Rattle.reading.specs.declared.LinesRead.{LinesRead}
 use Rattle.reading.specs.declared.fill.Filled.{Filled}
@@ -351,7 +349,7 @@ module _ (file : List ℕ) (p : Place) (keep : Bool) (lent_parts lent_rows : Lis
         }
 
     pub faulty :
-        {next j c : ℕ} → Turn m n at next (Stop j c) → {x : LinesRead} → x ≡ lines_read (Fault j n c) f
+        {next j c : ℕ} → Turn m n at next (Stop j c) → {x : LinesRead} → x ≡ lines_read (fault j n c) f
         → LinesInto file p keep lent_parts lent_rows x parts rows
     unfolding gone_on emit line_in
     faulty {j = j} {c = c} t {x} e =
@@ -361,7 +359,7 @@ module _ (file : List ℕ) (p : Place) (keep : Bool) (lent_parts lent_rows : Lis
           kept = λ q. kept (b.tabled q) (step_tables t (b.tabled q));
         })
 
-    pub whole : length file ≤ at → LinesInto file p keep lent_parts lent_rows (lines_read (Clean m n) f) parts rows
+    pub whole : length file ≤ at → LinesInto file p keep lent_parts lent_rows (lines_read (clean m n) f) parts rows
     unfolding go_on tables_from line_in
     whole h =
         let none_left = no_line at file h in

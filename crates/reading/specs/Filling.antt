@@ -2,8 +2,7 @@
 use Rattle.std.specs.Prelude.{ℕ, ◌*◌, ◌<◌, ◌≤◌, List, [], ◌∷◌, ◌++◌, ◌≡◌, length}
 use Rattle.rules.specs.Limits.{longest_file}
 use Rattle.rules.specs.Calls.{overwritten}
-use Rattle.rules.specs.Reading.{reading_of}
-use Rattle.rules.specs.declared.reading.Reading.{Reading}
+use Rattle.rules.specs.Reading.{reading_of, Reading}
 use Rattle.tables.specs.Tables.{most_parts, part_room, most_rows, row_room}
 use Rattle.tables.specs.Cells.{part_cells, row_cells}
 use Rattle.reading.specs.TwoTables.{Tables, tables_of}

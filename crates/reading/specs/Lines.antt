@@ -1,14 +1,13 @@
 -- Lines read one after the other: what they come to, and what is promised of it.
-use Rattle.std.specs.Prelude.{ℕ, ◌+◌, ◌≤◌, Bool, true, List, [], ◌∷◌, ◌≡◌, length, drop}
+use Rattle.std.specs.Prelude.{ℕ, ◌+◌, ◌≤◌, Bool, true, List, [], ◌∷◌, ◌≡◌, length, drop, Result, Ok, Err}
 use Rattle.rules.specs.Limits.{longest_file}
 use Rattle.rules.specs.Text.{lines_of}
 use Rattle.rules.specs.Calls.{overwritten}
-use Rattle.rules.specs.Reading.{at_start, step_at, at_end}
+use Rattle.rules.specs.Reading.{at_start, step_at, at_end, Reading, Complete, stop}
 use Rattle.rules.specs.declared.reading.Mode.{Mode}
+use Rattle.rules.specs.declared.reading.Stop.{Stop as TheStop}
 use Rattle.rules.specs.declared.reading.Step.{Step}
 use Rattle.rules.specs.declared.reading.Step.TheVariants.{Stop, Next, Add, CloseModule, CloseSection}
-use Rattle.rules.specs.declared.reading.Reading.{Reading}
-use Rattle.rules.specs.declared.reading.Reading.TheVariants.{Complete, Stopped}
 use Rattle.runs.specs.Runs.{RecordsRead}
 use Rattle.runs.specs.Modes.{room_for}
 use Rattle.runs.specs.declared.Run.{Run}
@@ -16,16 +15,25 @@ use Rattle.tables.specs.Tables.{most_parts, most_rows}
 use Rattle.reading.specs.TwoTables.{tables_of}
 use Rattle.reading.specs.Filling.{filled_of, parts_in, rows_in, Lent}
 use Rattle.reading.specs.declared.Place.{Place}
-use Rattle.reading.specs.declared.Reached.{Reached}
-use Rattle.reading.specs.declared.Reached.TheVariants.{Clean, Fault}
+use Rattle.reading.specs.declared.Clean.{Clean}
 use Rattle.reading.specs.declared.LinesRead.{LinesRead}
 use Rattle.reading.specs.declared.fill.Filled.{Filled}
 
 -- ---- what lines come to
 
+-- where the reading stands behind them, and the number of the line that comes next; or their first fault
+abbrev pub Reached : Type 0
+Reached = Result Clean TheStop
+
+abbrev pub clean : Mode → ℕ → Reached
+clean m n = Ok (record { mode = m; line = n })
+
+abbrev pub fault : ℕ → ℕ → ℕ → Reached
+fault k n c = Err (stop k n c)
+
 -- what the step of line n does, where the lines behind it come to this
 unfoldable pub gone_on : ℕ → Step → (Mode → Reached) → Reached
-gone_on n (Stop k c) more = Fault k n c
+gone_on n (Stop k c) more = fault k n c
 gone_on n (Next m) more = more m
 gone_on n (Add m p) more = more m
 gone_on n (CloseModule m line) more = more m
@@ -33,23 +41,23 @@ gone_on n (CloseSection m line) more = more m
 
 -- lines from line n on, where the reading stands at m
 unfoldable pub go_on : ℕ → Mode → List (List ℕ) → Reached
-go_on n m [] = Clean m n
+go_on n m [] = clean m n
 go_on n m (l ∷ ls) = gone_on n (step_at n m l) (λ m'. go_on (n + 1) m' ls)
 
 -- the number of the line that comes next, or of the fault's
 unfoldable pub line_in : Reached → ℕ
-line_in (Clean m n) = n
-line_in (Fault k n c) = n
+line_in (Ok c) = c.line
+line_in (Err s) = s.line
 
 -- the fault, Complete where there is none
 unfoldable pub told : Reached → Reading
-told (Clean m n) = Complete
-told (Fault k n c) = Stopped k n c
+told (Ok c) = Complete
+told (Err s) = Err s
 
 -- what a file comes to that ends there
 unfoldable pub ended_at : Reached → Reading
-ended_at (Clean m n) = at_end n m
-ended_at (Fault k n c) = Stopped k n c
+ended_at (Ok c) = at_end c.line c.mode
+ended_at (Err s) = Err s
 
 -- ---- what is promised
 

@@ -9,15 +9,14 @@ ghost use Rattle.std.specs.Prelude.{◌+◌, ◌≤◌, ◌≡◌, length};
 ghost use Rattle.rules.specs.Line.{code_word};
 ghost use Rattle.rules.specs.declared.line.Relocation.TheVariants.{Plain};
 ghost use Rattle.reading.specs.Filling.{file_read, Lent, ReadInto};
-ghost use Rattle.reading.specs.Lines.{lines_read, RunFrom, Begins, LinesInto, ReadOn};
-ghost use Rattle.reading.specs.declared.Reached.TheVariants.{Fault};
+ghost use Rattle.reading.specs.Lines.{lines_read, fault, RunFrom, Begins, LinesInto, ReadOn};
 ghost use Rattle.rules.specs.Limits.{longest_file};
 
 use crate::fill::{Filled, nothing};
 use crate::keep::{keep_module, keep_part, keep_section};
 use crate::said::said_at;
 use rules::line::{CodeWord, Expected, Relocation};
-use rules::reading::{Mode, Reading, Step};
+use rules::reading::{Mode, Reading, Step, Stop};
 use runs::modes::{records_done, room};
 use runs::{Run, read_records};
 use steps::lines::{at_end, step_of};
@@ -34,19 +33,15 @@ pub struct Place {
     pub mode: Mode,
 }
 
-// How far lines have been read: where the reading stands, and the number of the line that comes next; or the first fault.
+// Where the reading stands behind lines without a fault, and the number of the line that comes next.
 #[derive(Clone, Copy)]
-pub enum Reached {
-    Clean {
-        mode: Mode,
-        line: u32,
-    },
-    Fault {
-        number: u64,
-        line: u32,
-        column: usize,
-    },
+pub struct Clean {
+    pub mode: Mode,
+    pub line: u32,
 }
+
+// How far lines have been read: to their end, or to the first fault.
+pub type Reached = Result<Clean, Stop>;
 
 #[derive(Clone, Copy)]
 pub struct LinesRead {
@@ -75,14 +70,14 @@ fn ended(reading: Reading, filled: Filled) -> FileRead
 
 // A fault at line n.
 fn stopped(number: u64, n: u32, column: usize, filled: Filled) -> LinesRead
-    ensures { result ≡ lines_read (Fault number n column) filled }
+    ensures { result ≡ lines_read (fault number n column) filled }
 {
     LinesRead {
-        reached: Reached::Fault {
+        reached: Err(Stop {
             number,
             line: n,
             column,
-        },
+        }),
         filled,
     }
 }
@@ -170,7 +165,7 @@ pub fn read_lines(
         }
     }
     LinesRead {
-        reached: Reached::Clean { mode, line },
+        reached: Ok(Clean { mode, line }),
         filled,
     }
 }
@@ -189,19 +184,8 @@ pub fn read_file(file: &[u8], parts: &mut [u64], rows: &mut [u64]) -> FileRead
     let filled = read.filled;
     let reached = read.reached;
     match reached {
-        Reached::Clean { mode, line } => ended(at_end(line, mode), filled),
-        Reached::Fault {
-            number,
-            line,
-            column,
-        } => ended(
-            Reading::Stopped {
-                number,
-                line,
-                column,
-            },
-            filled,
-        ),
+        Ok(clean) => ended(at_end(clean.line, clean.mode), filled),
+        Err(stop) => ended(Err(stop), filled),
     }
 }
 

@@ -11,10 +11,9 @@ use lib.Dec.{eqb}
 use borrow.Author.Tests.{not-true}
 use Rattle.rules.specs.Text.{all, dollar, dot, is_letter, is_digit, is_name_character, is_letter_or_digit}
 use Rattle.rules.specs.Answers.{DONE, NAME, SYMBOL}
-use Rattle.rules.specs.Reading.{reading_of, reading_over, items_of, items_over}
+use Rattle.rules.specs.Reading.{reading_of, reading_over, items_of, items_over, Complete, Stopped}
 use Rattle.rules.specs.State.{State, sound, sound_over}
 use Rattle.rules.specs.Calls.{Lent, load, load_over, force, force_over}
-use Rattle.rules.specs.declared.reading.Reading.TheVariants.{Complete, Stopped}
 use Rattle.rules.proofs.BoolLaws.{or_cases}
 use Rattle.rules.proofs.FirstFault.{never_stopped}
 use Rattle.rules.proofs.AgreeLaws.{Agree, name_agrees, file_agrees}

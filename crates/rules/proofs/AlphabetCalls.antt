@@ -7,9 +7,10 @@ use mathlib.Core.Logic.{◌≢◌, ◌⊎◌, inl, inr}
 use mathlib.Core.Path.{◌≡◌, refl, sym, ap, ◌∙◌}
 use lib.ListN.{length}
 use lib.Dec.{eqb, leb, ltb}
+use Rattle.std.specs.Prelude.{Err}
 use Rattle.rules.specs.Text.{all, Alphabet, unpack_name, is_name_over, is_packed_over}
 use Rattle.rules.specs.Answers.{DONE, DAMAGED, TOO_LONG, NAME, SYMBOL}
-use Rattle.rules.specs.Reading.{reading_over, Item}
+use Rattle.rules.specs.Reading.{reading_over, Item, Reading, Complete}
 use Rattle.rules.specs.State.{State, Symbol, sound_symbol_over, sound_over}
 use Rattle.rules.specs.Load.{Loaded, walked, walk_from, load_read_over, load_file_over}
 use Rattle.rules.specs.Calls.{Lent, wrong_length, damaged, holding, Outcome, shut_by, load_outcome, load_stopped, stopped, load_state_over, load_lent_over, load_over, force_state_over, force_over, work_after, base, reset, memory, symbols, undefined, end}
@@ -17,8 +18,6 @@ use Rattle.rules.specs.Limits.{longest_file, work_size}
 use Rattle.rules.specs.History.{Call, loading, forcing, basing, resetting, asking_high, listing, listing_undefined, ending, of_load, of_call, work_fits, reply_over, number_in, left_over}
 use Rattle.rules.specs.declared.answer.LoadAnswer.{LoadAnswer}
 use Rattle.rules.specs.declared.answer.CallAnswer.{CallAnswer}
-use Rattle.rules.specs.declared.reading.Reading.{Reading}
-use Rattle.rules.specs.declared.reading.Reading.TheVariants.{Complete, Stopped}
 use Rattle.rules.proofs.TestLaws.{and_intro, and_left, and_right, all_weaken}
 use Rattle.rules.proofs.AlphabetLaws.{Within, ReadAlike, FileGrows, name_grows, file_grows}
 
@@ -31,7 +30,7 @@ module _ (one other : Alphabet) where
     where
       go : (r : Reading) → load_read_over one s file r ≡ load_read_over other s file r
       go Complete = ap (λ (is : List Item). walked s (walk_from s is)) i
-      go (Stopped k n c) = refl
+      go (Err s) = refl
 
   pub load_same : (m : Lent) (fits : Bool) (file : List ℕ) → ReadAlike one other file → load_over one m fits file ≡ load_over other m fits file
   unfolding load_over load_lent_over load_state_over

@@ -9,11 +9,12 @@ use mathlib.Core.Path.{◌≡◌, refl, sym, ap, subst, ◌∙◌}
 use lib.ListN.{length, get_or}
 use lib.Dec.{leb}
 use borrow.Author.Tests.{leb-false, lt-leb}
+use Rattle.std.specs.Prelude.{Err}
 use Rattle.rules.specs.Text.{between, is_letter, Field, fields_from, fields_of, lines_of, Alphabet, is_name_over, name_over}
 use Rattle.rules.specs.Answers.{SYMBOL}
 use Rattle.rules.specs.Line.{Held, value, wrong, held, Fitted, fits, misfit, fault, in_front, Shape, said, read_field_over, fit_over, read_as_over, shape_for, say_fields_over, line_over, fault_in, within, test_bytes, line_answer_over}
 use Rattle.rules.specs.Faults.{fault_number}
-use Rattle.rules.specs.Reading.{ReadSoFar, unread, stepped, if_complete, step_of, read_line_over, read_lines_over, ended, reading_over, items_over}
+use Rattle.rules.specs.Reading.{ReadSoFar, unread, stepped, if_complete, step_of, read_line_over, read_lines_over, ended, reading_over, items_over, Reading, Complete, Stopped}
 use Rattle.rules.specs.Calls.{end}
 use Rattle.rules.specs.declared.line.FaultKind.TheVariants.{BadName}
 use Rattle.rules.specs.declared.line.Fault.{Fault}
@@ -25,8 +26,6 @@ use Rattle.rules.specs.declared.line.LineAnswer.TheVariants.{Bad}
 use Rattle.rules.specs.declared.reading.Mode.{Mode}
 use Rattle.rules.specs.declared.reading.Step.{Step}
 use Rattle.rules.specs.declared.reading.Step.TheVariants.{Stop}
-use Rattle.rules.specs.declared.reading.Reading.{Reading}
-use Rattle.rules.specs.declared.reading.Reading.TheVariants.{Complete, Stopped}
 use Rattle.rules.proofs.BoolLaws.{never_none}
 use Rattle.rules.proofs.TestLaws.{and_intro, and_left, and_right, all_weaken}
 use Rattle.rules.proofs.FaultLaws.{Rising, rising_lower, fields_rise, Faultless, FaultlessIn, shape_faultless}
@@ -142,7 +141,7 @@ taken_grows r a b (inr (c, e)) = go r.fault
   where
     go : (f : Reading) → ReadGrows (if_complete f (stepped r a) r) (if_complete f (stepped r b) r)
     go Complete = inr (r.line, c, ap (λ (x : Step). (stepped r x).fault) e)
-    go (Stopped k n d) = inl refl
+    go (Err s) = inl refl
 
 -- a file that is read alike over two alphabets
 abbrev pub ReadAlike : Alphabet → Alphabet → List ℕ → Type 0

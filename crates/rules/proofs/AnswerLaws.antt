@@ -9,11 +9,12 @@ use mathlib.Core.Option.{some}
 use mathlib.Core.Path.{◌≡◌, refl}
 use lib.Dec.{eqb, ltb, leb}
 use borrow.Author.Tests.{eqb-true, ne_eqb}
+use Rattle.std.specs.Prelude.{Err}
 use Rattle.rules.specs.Answers.{answers, is_line_fault, is_file_fault}
 use Rattle.rules.specs.Text.{between, lines_of}
 use Rattle.rules.specs.Line.{fault_in, line_answer}
 use Rattle.rules.specs.Faults.{fault_number}
-use Rattle.rules.specs.Reading.{title_step, library_step, library_end_step, header_step, closing_step, entry_step, external_step, parameter_step, sub_step, step_of, step_at, is_header, at_end, reading_of, at_start, Module}
+use Rattle.rules.specs.Reading.{title_step, library_step, library_end_step, header_step, closing_step, entry_step, external_step, parameter_step, sub_step, step_of, step_at, is_header, at_end, reading_of, at_start, Module, Reading, Complete}
 use Rattle.rules.specs.State.{State}
 use Rattle.rules.specs.Placing.{placing_fault, no_room, overlaps, bad_arguments, out_of_range, duplicates, table_full}
 use Rattle.rules.specs.declared.line.FaultKind.{FaultKind}
@@ -26,8 +27,6 @@ use Rattle.rules.specs.declared.line.LineAnswer.TheVariants.{Bad, Blank, Head, O
 use Rattle.rules.specs.declared.reading.Mode.{Mode}
 use Rattle.rules.specs.declared.reading.Step.{Step}
 use Rattle.rules.specs.declared.reading.Step.TheVariants.{Stop, Next, Add, CloseModule, CloseSection}
-use Rattle.rules.specs.declared.reading.Reading.{Reading}
-use Rattle.rules.specs.declared.reading.Reading.TheVariants.{Complete, Stopped}
 use Rattle.rules.proofs.TestLaws.{cond_keeps, between_low, between_wider}
 use Rattle.rules.proofs.BoolLaws.{or_on}
 use Rattle.rules.proofs.FaultLaws.{line_column}
@@ -131,7 +130,7 @@ step_number_lem n m Sub p = refl
 
 unfoldable pub reading_number : Reading → Bool
 reading_number Complete = true
-reading_number (Stopped k n c) = right_column 8 k c
+reading_number (Err s) = right_column 8 s.number s.column
 
 on_step_number : (n : ℕ) (s : Step) (go : Mode → Reading)
     → step_number s ≡ true → ((m : Mode) → reading_number (go m) ≡ true) → reading_number (on_step n s go) ≡ true

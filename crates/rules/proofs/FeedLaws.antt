@@ -8,9 +8,10 @@ use mathlib.Core.Path.{◌≡◌, refl, sym, ap, subst, ◌∙◌}
 use lib.ListN.{length, length-append, length-replicate}
 use lib.Dec.{eqb, leb, ltb}
 use borrow.Author.Tests.{eqb-true, leb-true, leb-false, le-leb, lt-leb, le-ltb, lt-ltb}
+use Rattle.std.specs.Prelude.{Err}
 use Rattle.rules.specs.Limits.{longest_file, longest_piece}
 use Rattle.rules.specs.Text.{LF, CR, all, lines_of, widen_line, is_name_character}
-use Rattle.rules.specs.Reading.{ReadSoFar, unread, if_complete, read_line, read_line_over, read_lines, read_lines_over, stepped, step_at, module_done, module_at, reading_of, reading_over, Module}
+use Rattle.rules.specs.Reading.{ReadSoFar, unread, if_complete, read_line, read_line_over, read_lines, read_lines_over, stepped, step_at, module_done, module_at, reading_of, reading_over, Module, Reading, Complete, Stopped}
 use Rattle.rules.specs.State.{State, unmarked, broken, marked}
 use Rattle.rules.specs.Load.{load_read_over, load_file_over}
 use Rattle.rules.specs.Calls.{LentOf, wrong_length, damaged, holding, as_before, now, Lent, outcome, load_answer, load, load_over, load_lent_over, load_state_over}
@@ -19,8 +20,6 @@ use Rattle.rules.specs.declared.answer.FeedAnswer.{FeedAnswer}
 use Rattle.rules.specs.declared.reading.Mode.{Mode}
 use Rattle.rules.specs.declared.reading.Step.{Step}
 use Rattle.rules.specs.declared.reading.Step.TheVariants.{Stop, Next, Add, CloseModule, CloseSection}
-use Rattle.rules.specs.declared.reading.Reading.{Reading}
-use Rattle.rules.specs.declared.reading.Reading.TheVariants.{Complete, Stopped}
 use Rattle.rules.proofs.FirstFault.{lines_append, lines_after, never_stopped, lines_counted, line_counted}
 use Rattle.rules.proofs.LineEndLaws.{starts_lf, add_to_lines, lines_nil, lines_cons, line_LF, some_line}
 use Rattle.rules.proofs.TestLaws.{Every}
@@ -215,9 +214,9 @@ told_once (p ∷ ps) w bs e h = subst (ToldOnce (advice bs p ∷ advices (bs ++ 
         (fault_so_far (bs ++ p) ≡ Complete → length ((bs ++ p) ++ joined ps) ≤ longest_file → ToldOnce (advices (bs ++ p) ps) (fault_so_far ((bs ++ p) ++ joined ps)))
         → (f : Reading) → fault_so_far (bs ++ p) ≡ f → ToldOnce (advice bs p ∷ advices (bs ++ p) ps) (fault_so_far ((bs ++ p) ++ joined ps))
     go on Complete q = one_silent (told_is bs p e short ∙ q) (on q (omega (arith, h, ap length whole)))
-    go on (Stopped k n c) q =
-        subst (ToldOnce (advice bs p ∷ advices (bs ++ p) ps)) (sym (fault_stays (bs ++ p) (joined ps) k n c q))
-        (once k n c [] (advices (bs ++ p) ps) (ap (λ (a : Reading). a ∷ advices (bs ++ p) ps) (told_is bs p e short ∙ q)) refl (silent_behind ps (bs ++ p) k n c q))
+    go on (Err s) q =
+        subst (ToldOnce (advice bs p ∷ advices (bs ++ p) ps)) (sym (fault_stays (bs ++ p) (joined ps) s.number s.line s.column q))
+        (once s.number s.line s.column [] (advices (bs ++ p) ps) (ap (λ (a : Reading). a ∷ advices (bs ++ p) ps) (told_is bs p e short ∙ q)) refl (silent_behind ps (bs ++ p) s.number s.line s.column q))
 
 -- ---- "by the piece that brings its line's LF"
 
@@ -256,9 +255,14 @@ unfolding module_done
 member_clean r true m md e = never_stopped _ _ _ (sym e)
 member_clean r false m md e = never_stopped _ _ _ (sym e)
 
+-- the line at which a reading stops
+unfoldable stop_line : Reading → ℕ
+stop_line Complete = 0
+stop_line (Err s) = s.line
+
 step_line : (r : ReadSoFar) (a : Step) {k n c : ℕ} → (stepped r a).fault ≡ Stopped k n c → n ≡ r.line
-unfolding stepped
-step_line r (Stop j d) {k} {n} {c} e = let same : r.line ≡ n = cc in sym same
+unfolding stepped stop_line
+step_line r (Stop j d) e = sym (ap stop_line e)
 step_line r (Next m) e = never_stopped _ _ _ (sym e)
 step_line r (Add m p) e = never_stopped _ _ _ (sym e)
 step_line r (CloseModule m line) e = member_clean r m.section.inside m (module_at line r.parts) e
@@ -270,7 +274,7 @@ unfolding read_line_over if_complete
 read_clean r l e = ap (λ (f : Reading). (if_complete f (stepped r (step_at r.line r.mode l)) r).fault) e
 
 pub fault_within : (ls : List (List ℕ)) (r : ReadSoFar) → r.fault ≡ Complete → (k n c : ℕ) → (read_lines r ls).fault ≡ Stopped k n c → (r.line ≤ n) × (n < r.line + length ls)
-unfolding read_lines_over
+unfolding read_lines_over stop_line
 fault_within [] r clean k n c e = never_stopped k n c (sym e ∙ clean)
 fault_within (l ∷ ls) r clean k n c e = go (λ q. fault_within ls (read_line r l) q k n c e) (read_line r l).fault refl
   where
@@ -281,10 +285,10 @@ fault_within (l ∷ ls) r clean k n c e = go (λ q. fault_within ls (read_line r
         let on = rest q in
         let next = line_counted r l clean q in
         (omega (arith, on.0, next), omega (arith, on.1, next))
-    go rest (Stopped j i d) q =
-        let same : Stopped j i d ≡ Stopped k n c = sym q ∙ sym (ap (λ (x : ReadSoFar). x.fault) (lines_after is_name_character ls (read_line r l) j i d q)) ∙ e in
-        let line : i ≡ n = cc in
-        let here : i ≡ r.line = step_line r (step_at r.line r.mode l) (sym (read_clean r l clean) ∙ q) in
+    go rest (Err s) q =
+        let same : Err s ≡ Stopped k n c = sym q ∙ sym (ap (λ (x : ReadSoFar). x.fault) (lines_after is_name_character ls (read_line r l) s.number s.line s.column q)) ∙ e in
+        let line : s.line ≡ n = ap stop_line same in
+        let here : s.line ≡ r.line = step_line r (step_at r.line r.mode l) (sym (read_clean r l clean) ∙ q) in
         (omega (arith, line, here), omega (arith, line, here))
 
 fault_is : (bs : List ℕ) → (read_lines unread (lines_of (whole_lines bs))).fault ≡ fault_so_far bs
@@ -311,7 +315,7 @@ pub brings_LF : (bs p : List ℕ) (k n c : ℕ) → advice bs p ≡ Stopped k n 
 brings_LF bs p k n c e = go (fault_so_far bs) refl (leb (length (bs ++ p)) longest_file) refl
   where
     go : (f : Reading) → fault_so_far bs ≡ f → (t : Bool) → leb (length (bs ++ p)) longest_file ≡ t → (count_lf bs < n) × (n ≤ count_lf (bs ++ p))
-    go (Stopped j i d) q t h = never_stopped k n c (sym e ∙ known bs p j i d q)
+    go (Err s) q t h = never_stopped k n c (sym e ∙ known bs p s.number s.line s.column q)
     go Complete q false h = never_stopped k n c (sym e ∙ too_long bs p h)
     go Complete q true h =
         let g = goes bs p in
@@ -346,7 +350,7 @@ drop_answers (holding (fed bs)) = refl
 told_answers : (f : Reading) → can_answer_feed (advised f).number ≡ true
 unfolding advised can_answer_feed
 told_answers Complete = refl
-told_answers (Stopped k n c) = refl
+told_answers (Err s) = refl
 
 pub piece_answers : (m : LentOf Feed) (p : List ℕ) → can_answer_feed (feed_piece m p).answer.number ≡ true
 unfolding feed_piece take_piece can_answer_feed

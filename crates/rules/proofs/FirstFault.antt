@@ -5,14 +5,13 @@ use mathlib.Core.Bool.{Bool, true, false, not, ◌&&◌, ◌||◌}
 use mathlib.Core.List.{List, [], ◌∷◌, ◌++◌}
 use mathlib.Core.Path.{◌≡◌, refl, sym, ap, subst, ◌∙◌}
 use lib.ListN.{length}
+use Rattle.std.specs.Prelude.{Err}
 use Rattle.rules.specs.Text.{lines_of, Alphabet, is_name_character}
 use Rattle.rules.specs.Answers.{PLACE}
-use Rattle.rules.specs.Reading.{step_at, step_over, Module, module_at, ReadSoFar, unread, module_done, stepped, if_complete, read_line, read_line_over, read_lines, read_lines_over, is_header, at_end, reading_of, reading_over}
+use Rattle.rules.specs.Reading.{step_at, step_over, Module, module_at, ReadSoFar, unread, module_done, stepped, if_complete, read_line, read_line_over, read_lines, read_lines_over, is_header, at_end, reading_of, reading_over, Reading, Complete, Stopped}
 use Rattle.rules.specs.declared.reading.Mode.{Mode}
 use Rattle.rules.specs.declared.reading.Step.{Step}
 use Rattle.rules.specs.declared.reading.Step.TheVariants.{Stop, Next, Add, CloseModule, CloseSection}
-use Rattle.rules.specs.declared.reading.Reading.{Reading}
-use Rattle.rules.specs.declared.reading.Reading.TheVariants.{Complete, Stopped}
 
 -- ---- behind a fault nothing is read
 
@@ -63,8 +62,8 @@ was_clean ls r e = go r.fault refl
   where
     go : (f : Reading) → r.fault ≡ f → r.fault ≡ Complete
     go Complete q = q
-    go (Stopped k n c) q =
-        never_stopped k n c (sym q ∙ sym (ap (λ (p : ReadSoFar). p.fault) (lines_after is_name_character ls r k n c q)) ∙ e)
+    go (Err s) q =
+        never_stopped s.number s.line s.column (sym q ∙ sym (ap (λ (p : ReadSoFar). p.fault) (lines_after is_name_character ls r s.number s.line s.column q)) ∙ e)
 
 pub line_counted : (r : ReadSoFar) (l : List ℕ) → r.fault ≡ Complete → Counted r (read_line r l)
 unfolding read_line_over if_complete

@@ -4,13 +4,11 @@ use mathlib.Core.Bool.{Bool, true, false}
 use mathlib.Core.List.{List, [], ◌∷◌, ◌++◌, append_assoc, append-nil}
 use mathlib.Core.Path.{◌≡◌, refl, sym, ap, ◌∙◌}
 use Rattle.rules.specs.Text.{lines_of}
-use Rattle.rules.specs.Reading.{at_start, step_at, Module, Item, free, section, module_at, ReadSoFar, read_so_far, unread, module_done, stepped, if_complete, read_line_over, read_lines, read_lines_over, at_end, ended, reading_of, reading_over, items_of, items_over}
+use Rattle.rules.specs.Reading.{at_start, step_at, Module, Item, free, section, module_at, ReadSoFar, read_so_far, unread, module_done, stepped, if_complete, read_line_over, read_lines, read_lines_over, at_end, ended, reading_of, reading_over, items_of, items_over, Reading, Complete, Stopped}
 use Rattle.rules.specs.declared.reading.Mode.{Mode}
 use Rattle.rules.specs.declared.reading.Part.{Part}
 use Rattle.rules.specs.declared.reading.Step.{Step}
 use Rattle.rules.specs.declared.reading.Step.TheVariants.{Stop, Next, Add, CloseModule, CloseSection}
-use Rattle.rules.specs.declared.reading.Reading.{Reading}
-use Rattle.rules.specs.declared.reading.Reading.TheVariants.{Complete, Stopped}
 
 -- ---- the two, each by itself
 

@@ -7,16 +7,15 @@ use mathlib.Core.List.{List, [], ◌∷◌}
 use mathlib.Core.Path.{◌≡◌, refl}
 use lib.ListN.{length}
 use lib.Dec.{eqb, ltb}
+use Rattle.std.specs.Prelude.{Err}
 use Rattle.rules.specs.Text.{between}
-use Rattle.rules.specs.Reading.{Module, Item, free, section, reading_of, items_of}
+use Rattle.rules.specs.Reading.{Module, Item, free, section, reading_of, items_of, Reading, Complete}
 use Rattle.rules.specs.State.{State, Mark, unmarked, broken, frozen, marked}
 use Rattle.rules.specs.Placing.{placing_fault, placed, twice}
 use Rattle.rules.specs.Search.{ModuleSet}
 use Rattle.rules.specs.Load.{Walk, refusal, walk, walking, accepted, try_place, place, takes, searched, section_names, test_section, Progress, progress, walk_item, walk_items, walk_from, loaded, walked, load_read, load_read_over, load_file, load_file_over}
 use Rattle.rules.specs.declared.answer.LoadAnswer.{LoadAnswer}
 use Rattle.rules.specs.Calls.{as_before, now, holding, shut_by, Outcome, load_stopped, load_outcome, load_state, load_state_over, load_lent_over, load, load_over}
-use Rattle.rules.specs.declared.reading.Reading.{Reading}
-use Rattle.rules.specs.declared.reading.Reading.TheVariants.{Complete, Stopped}
 use Rattle.rules.proofs.TestLaws.{cond_keeps, between_wider}
 use Rattle.rules.proofs.BoolLaws.{cond_cases}
 use Rattle.rules.proofs.SearchLaws.{search_keeps}
@@ -82,7 +81,7 @@ walked_ends s p h =
 read_ends : (s : State) (file : List ℕ) (r : Reading) → reading_number r ≡ true → Ending s (load_outcome (load_read s file r))
 unfolding load_read_over reading_number walk_number placing_number
 read_ends s file Complete h = walked_ends s (walk_from s (items_of file)) (items_number (items_of file) (progress (walking s) 0) refl)
-read_ends s file (Stopped k n c) h = for_file (right_wider k c h) refl refl
+read_ends s file (Err at) h = for_file (right_wider at.number at.column h) refl refl
 
 shut_number : (k : Mark) → not (eqb (shut_by k) 0) ≡ true → between 1 5 (shut_by k) ≡ true
 unfolding shut_by

@@ -10,7 +10,7 @@ use lib.ListN.{length, length-append}
 use lib.Dec.{eqb, leb, ltb}
 use borrow.Author.Tests.{leb-true, leb-false, eqb-true, eqb-false, ltb-true}
 use Rattle.rules.specs.Text.{all, lines_of, is_packed}
-use Rattle.rules.specs.Reading.{mode, open_block, open_module, open_section, at_start, expect, expect_records, record_done, expect_subs, title_header, enter_module, leave_module, enter_section, leave_section, count_entry, count_external, title_step, library_step, library_end_step, header_step, closing_step, entry_step, external_step, parameter_step, sub_step, step_of, step_at, is_header, at_end, Module, Item, free, section, module_at, items_of}
+use Rattle.rules.specs.Reading.{mode, open_block, open_module, open_section, at_start, expect, expect_records, record_done, expect_subs, title_header, enter_module, leave_module, enter_section, leave_section, count_entry, count_external, title_step, library_step, library_end_step, header_step, closing_step, entry_step, external_step, parameter_step, sub_step, step_of, step_at, is_header, at_end, Module, Item, free, section, module_at, items_of, Reading, Complete, Stopped}
 use Rattle.rules.specs.Placing.{entries_in, externals_in, length_in, count_in, code_count}
 use Rattle.rules.specs.declared.line.Entry.{Entry}
 use Rattle.rules.specs.declared.line.CodeWord.{CodeWord}
@@ -26,8 +26,6 @@ use Rattle.rules.specs.declared.reading.Part.{Part}
 use Rattle.rules.specs.declared.reading.Part.TheVariants.{EntryPart, ExternalPart, BlockPart, WordPart}
 use Rattle.rules.specs.declared.reading.Step.{Step}
 use Rattle.rules.specs.declared.reading.Step.TheVariants.{Stop, Next, Add, CloseModule, CloseSection}
-use Rattle.rules.specs.declared.reading.Reading.{Reading}
-use Rattle.rules.specs.declared.reading.Reading.TheVariants.{Complete, Stopped}
 use Rattle.rules.proofs.TestLaws.{Every, every_add, every_all, and_intro, and_left, and_right}
 use Rattle.rules.proofs.LineLaws.{legal_header, legal_entry, legal_word, is_expected, expected_number, CanSay, bad, blank, head, opening, closing, coded, entered, mentioned, data_read, init_read, parameter, sub, line_can_say}
 use Rattle.rules.proofs.FoldLaws.{on_step, read_from, closed, gather, items_from, items_lines}

@@ -28,7 +28,7 @@ use Rattle.rules.specs.Load as Load
 use Rattle.rules.specs.Text.{bytes, lines_of, Alphabet, is_name_character, is_letter_or_digit, is_name_over, pack_name}
 use Rattle.rules.specs.Answers.{answer_name}
 use Rattle.rules.specs.Line.{line_answer, line_answer_over}
-use Rattle.rules.specs.Reading.{free, reading_of, items_of}
+use Rattle.rules.specs.Reading.{free, reading_of, items_of, Reading, Complete, Stopped}
 use Rattle.rules.specs.State.{Symbol, symbol, Word, plain, unplaced, refers, Mark, unmarked, broken, frozen, State, state, fresh, position_of, high, highest, sound, sound_over}
 use Rattle.rules.specs.Calls.{call_answer, wrong_length, damaged, holding, Left, as_before, now, Outcome, outcome, work_after, load_answer, load_stopped, load, force, force_over, base, reset, memory, symbols, undefined, end}
 use Rattle.rules.specs.Lookup.{lookup, answered, read_by, look_up, name_at}
@@ -43,8 +43,6 @@ use Rattle.rules.specs.declared.line.Expected.{Expected}
 use Rattle.rules.specs.declared.line.Expected.TheVariants.{AnyHeader, OpeningTitle, ClosingTitle, CodeRecord, EntryRecord, ExternalRecord, DataRecord, InitRecord, ParameterRecord, SubRecord}
 use Rattle.rules.specs.declared.line.LineAnswer.{LineAnswer}
 use Rattle.rules.specs.declared.line.LineAnswer.TheVariants.{Bad, Blank, Head, Opening, Closing, Code, Entered, Mentioned, Ignored, Parameter, Sub}
-use Rattle.rules.specs.declared.reading.Reading.{Reading}
-use Rattle.rules.specs.declared.reading.Reading.TheVariants.{Complete, Stopped}
 use Rattle.rules.specs.declared.answer.LoadAnswer.{LoadAnswer}
 use Rattle.rules.specs.declared.answer.CallAnswer.{CallAnswer}
 

@@ -11,14 +11,13 @@ use Rattle.rules.specs.Limits.{longest_file}
 use Rattle.rules.specs.Text.{lines_of}
 use Rattle.rules.specs.Line.{fault_in, line_answer}
 use Rattle.rules.specs.Faults.{fault_number, faults_of, leftmost}
-use Rattle.rules.specs.Reading.{step_of, unread, stepped, if_complete, read_line_over, read_lines, read_lines_over, reading_of, reading_over}
+use Rattle.rules.specs.Reading.{step_of, unread, stepped, if_complete, read_line_over, read_lines, read_lines_over, reading_of, reading_over, Complete, Stopped}
 use Rattle.rules.specs.State.{State, unmarked, broken, marked}
 use Rattle.rules.specs.Load.{load_read_over, load_file_over}
 use Rattle.rules.specs.Calls.{now, holding, outcome, load_answer, load}
 use Rattle.rules.specs.declared.line.Fault.{Fault}
 use Rattle.rules.specs.declared.line.LineAnswer.{LineAnswer}
 use Rattle.rules.specs.declared.line.LineAnswer.TheVariants.{Bad, Blank, Head, Opening, Closing, Code, Entered, Mentioned, Ignored, Parameter, Sub}
-use Rattle.rules.specs.declared.reading.Reading.TheVariants.{Complete, Stopped}
 use Rattle.rules.proofs.BoolLaws.{never_none}
 use Rattle.rules.proofs.FaultLaws.{told_leftmost}
 use Rattle.rules.proofs.FirstFault.{first_fault, lines_append, lines_counted}

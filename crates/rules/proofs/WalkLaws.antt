@@ -7,14 +7,13 @@ use mathlib.Core.Path.{◌≡◌, refl, ap}
 use lib.ListN.{length}
 use lib.Dec.{eqb, ltb}
 use borrow.Author.Tests.{eqb-false, not-true}
-use Rattle.rules.specs.Reading.{Module, Item, free, section, reading_of, items_of}
+use Rattle.std.specs.Prelude.{Err}
+use Rattle.rules.specs.Reading.{Module, Item, free, section, reading_of, items_of, Reading, Complete}
 use Rattle.rules.specs.State.{State, different_names}
 use Rattle.rules.specs.Placing.{placing_fault, placed, twice}
 use Rattle.rules.specs.Load.{refusal, Walk, walking, loaded, accepted, try_place, place, takes, searched, section_names, test_section, Progress, walk_item, walk_items, walk_from, Loaded, walked, load_read, load_read_over, load_file_over}
 use Rattle.rules.specs.declared.answer.LoadAnswer.{LoadAnswer}
 use Rattle.rules.specs.Calls.{Outcome, load_outcome, holding, shut_by, load_state_over, load_lent_over, load, load_over}
-use Rattle.rules.specs.declared.reading.Reading.{Reading}
-use Rattle.rules.specs.declared.reading.Reading.TheVariants.{Complete, Stopped}
 use Rattle.rules.proofs.BoolLaws.{cond_cases, never}
 use Rattle.rules.proofs.SearchLaws.{search_keeps}
 use Rattle.rules.proofs.TableLaws.{different_joined}
@@ -125,7 +124,7 @@ walked_accepted s p =
 read_accepted : (s : State) (file : List ℕ) (r : Reading) → reading_number r ≡ true → (load_read s file r).refusal.number ≡ 0 →
     let p = walk_from s (items_of file) in (accepted p.walk ≡ true) × (load_read s file r ≡ accomplished p)
 unfolding load_read_over reading_number
-read_accepted s file (Stopped k n c) t h = absurd (omega (arith, file_fault_low k (right_fault k c (right_wider k c t))))
+read_accepted s file (Err at) t h = absurd (omega (arith, file_fault_low at.number (right_fault at.number at.column (right_wider at.number at.column t))))
 read_accepted s file Complete t h = walked_accepted s (walk_from s (items_of file)) h
 
 -- an accepted load is what its walk comes to

@@ -1,15 +1,13 @@
 -- Document 02, 5/14, "Files off a slow reader": a load that is opened, fed in pieces, and closed or dropped.
-use Rattle.std.specs.Prelude.{ℕ, ◌+◌, Bool, true, false, cond, ◌&&◌, ◌||◌, List, [], ◌∷◌, ◌++◌, ◌≡◌, length, replicate, eqb, leb, ltb}
+use Rattle.std.specs.Prelude.{ℕ, ◌+◌, Bool, true, false, cond, ◌&&◌, ◌||◌, List, [], ◌∷◌, ◌++◌, ◌≡◌, length, replicate, eqb, leb, ltb, Err}
 use Rattle.rules.specs.Limits.{longest_file, longest_piece}
 use Rattle.rules.specs.Text.{LF, all, same_text, lines_of}
 use Rattle.rules.specs.Answers.{DONE, BUFFER, DAMAGED, TOO_LONG, FEED, is_file_fault}
-use Rattle.rules.specs.Reading.{unread, if_complete, read_lines}
+use Rattle.rules.specs.Reading.{unread, if_complete, read_lines, Reading, Complete, Stopped}
 use Rattle.rules.specs.Calls.{LentOf, wrong_length, damaged, holding, LeftOf, as_before, now, Lent, Outcome, call_answer, load, load_stopped}
 use Rattle.rules.specs.declared.answer.CallAnswer.{CallAnswer}
 use Rattle.rules.specs.declared.answer.FeedAnswer.{FeedAnswer}
 use Rattle.rules.specs.declared.answer.LoadAnswer.{LoadAnswer}
-use Rattle.rules.specs.declared.reading.Reading.{Reading}
-use Rattle.rules.specs.declared.reading.Reading.TheVariants.{Complete, Stopped}
 
 -- ---- what feed memory holds
 
@@ -87,7 +85,7 @@ piece_stopped k = feed_outcome (feed_answer k 0 0 0) as_before
 
 unfoldable pub advised : Reading → FeedAnswer
 advised Complete = feed_answer DONE 0 0 0
-advised (Stopped k n c) = feed_answer DONE k n c
+advised (Err s) = feed_answer DONE s.number s.line s.column
 
 unfoldable pub take_piece : Feed → List ℕ → FeedOutcome FeedAnswer
 take_piece shut piece = piece_stopped FEED

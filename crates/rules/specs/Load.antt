@@ -1,14 +1,12 @@
 -- Document 01, "Order": the walk over what a file holds, and what a load comes to.
-use Rattle.std.specs.Prelude.{ℕ, ◌+◌, Bool, cond, ◌&&◌, List, [], ◌∷◌, ◌++◌, map, length, eqb}
+use Rattle.std.specs.Prelude.{ℕ, ◌+◌, Bool, cond, ◌&&◌, List, [], ◌∷◌, ◌++◌, map, length, eqb, Err}
 use Rattle.rules.specs.Text.{any, Alphabet, is_name_character}
 use Rattle.rules.specs.Answers.{DONE, DUPLICATE}
-use Rattle.rules.specs.Reading.{Module, Item, free, section, reading_over, items_over}
+use Rattle.rules.specs.Reading.{Module, Item, free, section, reading_over, items_over, Reading, Complete}
 use Rattle.rules.specs.State.{State, marked, broken, is_undefined}
 use Rattle.rules.specs.Placing.{entries, entry_name, placing_fault, placed, twice}
 use Rattle.rules.specs.Search.{Found, count, search}
 use Rattle.rules.specs.declared.answer.Refusal.{Refusal}
-use Rattle.rules.specs.declared.reading.Reading.{Reading}
-use Rattle.rules.specs.declared.reading.Reading.TheVariants.{Complete, Stopped}
 
 -- a refusal, with its line
 abbrev pub refusal : ℕ → ℕ → Refusal
@@ -127,7 +125,7 @@ walked s p =
 module _ (alphabet : Alphabet) where
   -- "These set the broken mark as 6 did", and "each also tells the column"
   unfoldable pub load_read_over : State → List ℕ → Reading → Loaded
-  load_read_over s file (Stopped k n c) = loaded (refusal k n) c 0 (marked broken s)
+  load_read_over s file (Err at) = loaded (refusal at.number at.line) at.column 0 (marked broken s)
   load_read_over s file Complete = walked s (walk_from s (items_over alphabet file))
 
   -- "then the whole file is read [..] Then the walk"

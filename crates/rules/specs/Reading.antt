@@ -1,5 +1,5 @@
 -- Document 01, "The lines": the blocks of a file, in order; answers 6 to 8 and 17 to 21; and what a file holds.
-use Rattle.std.specs.Prelude.{ℕ, ◌+◌, ◌-◌, Bool, true, false, cond, not, ◌&&◌, ◌||◌, List, [], ◌∷◌, ◌++◌, eqb, leb, ltb}
+use Rattle.std.specs.Prelude.{ℕ, ◌+◌, ◌-◌, Bool, true, false, cond, not, ◌&&◌, ◌||◌, List, [], ◌∷◌, ◌++◌, eqb, leb, ltb, Result, Ok, Err}
 use Rattle.rules.specs.Limits.{most_entries, most_externals, most_modules}
 use Rattle.rules.specs.Text.{lines_of, Alphabet, is_name_character}
 use Rattle.rules.specs.Answers.{PLACE, LIST}
@@ -21,8 +21,7 @@ use Rattle.rules.specs.declared.reading.Part.{Part}
 use Rattle.rules.specs.declared.reading.Part.TheVariants.{EntryPart, ExternalPart, BlockPart, WordPart}
 use Rattle.rules.specs.declared.reading.Step.{Step}
 use Rattle.rules.specs.declared.reading.Step.TheVariants.{Stop, Next, Add, CloseModule, CloseSection}
-use Rattle.rules.specs.declared.reading.Reading.{Reading}
-use Rattle.rules.specs.declared.reading.Reading.TheVariants.{Complete, Stopped}
+use Rattle.rules.specs.declared.reading.Stop.{Stop as TheStop}
 
 -- ---- where the reading stands
 
@@ -199,6 +198,19 @@ module_at n ps = record { line = n; parts = ps }
 
 -- ---- the whole file
 
+-- what reading a whole file comes to: nothing is wrong with it; or it stops, by a number, at a line, with a column
+abbrev pub Reading : Type 0
+Reading = Result (Unit {0}) TheStop
+
+pattern abbrev pub Complete : Reading
+Complete = Ok tt
+
+abbrev pub stop : ℕ → ℕ → ℕ → TheStop
+stop k n c = record { number = k; line = n; column = c }
+
+abbrev pub Stopped : ℕ → ℕ → ℕ → Reading
+Stopped k n c = Err (stop k n c)
+
 -- how far the reading has come: the number of the line that comes next, where it stands, the parts of the open module, the modules
 -- of the open section, the items that are complete; and its fault, Complete while there is none
 pub record ReadSoFar : Type 0 where
@@ -235,7 +247,7 @@ stepped r (CloseSection m line) = onward r m [] [] (r.items ++ (section line r.m
 
 unfoldable pub if_complete : {A : Type 0} → Reading → A → A → A
 if_complete Complete x y = x
-if_complete (Stopped k n c) x y = y
+if_complete (Err s) x y = y
 
 unfoldable pub is_header : Expected → Bool
 is_header AnyHeader = true

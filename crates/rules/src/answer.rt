@@ -3,6 +3,7 @@ ghost use Rattle.std.specs.Prelude.{◌≡◌};
 ghost use Rattle.rules.specs.Answers.{reason_number};
 
 // The numbers of documents 01 and 02. specs/Answers.antt has them with their names.
+// Kept: rules' definitions and theorems say answers by the documents' numbers, and C is answered by them. Code refuses by `Reason`.
 pub const DONE: u64 = 0;
 
 pub const BUFFER: u64 = 1;
@@ -85,6 +86,7 @@ impl Reason {
 }
 
 // Why a walk goes no further: an answer's number and a line of the file; both are 0 where it goes on.
+// Kept: rules' definitions (`refusal`, `accepted`, `walked`) say answers by the documents' numbers.
 #[derive(Clone, Copy)]
 pub struct Refusal {
     pub number: u64,
@@ -92,6 +94,7 @@ pub struct Refusal {
 }
 
 // The answers: number and line, then what the call gives, which is 0 in a refusal.
+// Kept: C reads them, and rules' definitions and theorems (`load_answer`, `right_column`) say answers by the documents' numbers.
 
 // LOAD. column is that of a line's fault, and 0 where none is named.
 #[repr(C)]

@@ -40,4 +40,5 @@ pub const MOST_SUB_RECORDS: u16 = 7;
 pub const LARGEST_BASE: u64 = 4095;
 
 // What HIGH and a highest reference are where there is none.
+// Kept: document 02 says it so, and rules' `high` and C's answers with it.
 pub const NO_ADDRESS: usize = 65535;

@@ -77,8 +77,9 @@ pub enum Header {
 }
 
 // What the next line of a file has to be, where it has a field.
-#[derive(Clone, Copy)]
+#[derive(Clone, Copy, Default)]
 pub enum Expected {
+    #[default]
     AnyHeader,
     OpeningTitle,
     ClosingTitle,

@@ -3,7 +3,7 @@ use crate::line::{CodeWord, Entry, Expected};
 
 // The block whose records are being read: its offset and count, how many of its records are to come, and how many
 // sub-records of the open parameter record.
-#[derive(Clone, Copy)]
+#[derive(Clone, Copy, Default)]
 pub struct OpenBlock {
     pub offset: u16,
     pub count: u16,
@@ -13,7 +13,9 @@ pub struct OpenBlock {
 
 // The object module being read: whether there is one, its title, the line of its TITLE header, and how many entries and
 // externals it has so far.
-#[derive(Clone, Copy)]
+// Kept: the line is noted before the module is inside (`title_header`), so that it has no place in an Option of the module; and the
+// definitions `at_end`, `header_step`, `module_done` and the law `ends_too_soon` say by `inside` what is open.
+#[derive(Clone, Copy, Default)]
 pub struct OpenModule {
     pub inside: bool,
     pub title: u64,
@@ -23,7 +25,8 @@ pub struct OpenModule {
 }
 
 // The library section being read: whether there is one, the line of its LSB header, and how many modules it has so far.
-#[derive(Clone, Copy)]
+// Kept: `inside` stands as it does in the module, for the same definitions.
+#[derive(Clone, Copy, Default)]
 pub struct OpenSection {
     pub inside: bool,
     pub line: u32,
@@ -32,7 +35,7 @@ pub struct OpenSection {
 
 // Where the reading stands between two lines, and what the next line has to be. The block stands first: it is one word of the machine
 // there, and behind a field of one byte it would lie across two, for which the machine waits at each line.
-#[derive(Clone, Copy)]
+#[derive(Clone, Copy, Default)]
 pub struct Mode {
     pub block: OpenBlock,
     pub expected: Expected,
@@ -54,7 +57,8 @@ pub enum Part {
 // What a line does to the reading.
 #[derive(Clone, Copy)]
 pub enum Step {
-    // Answer 6, 7 or 8, at a column (0 where none is named).
+    // Answer 6, 7 or 8, or one of 17 to 21, at a column (0 where none is named).
+    // Kept: rules' definitions and theorems (`misplaced`, `fault_number`, `right_column`) say answers by the documents' numbers.
     Stop { number: u64, column: usize },
     Next(Mode),
     // The next mode, with one part of the open module.
@@ -64,13 +68,14 @@ pub enum Step {
     CloseSection(Mode, u32),
 }
 
-// What reading a whole file comes to.
+// Why reading stops: an answer's number, the line of the file, and the column, 0 where none is named.
+// Kept: rules' definitions and theorems (`is_file_fault`, `right_column`) say answers by the documents' numbers.
 #[derive(Clone, Copy)]
-pub enum Reading {
-    Complete,
-    Stopped {
-        number: u64,
-        line: u32,
-        column: usize,
-    },
+pub struct Stop {
+    pub number: u64,
+    pub line: u32,
+    pub column: usize,
 }
+
+// What reading a whole file comes to.
+pub type Reading = Result<(), Stop>;

@@ -8,11 +8,12 @@ use crate::records::{
     closing_step, entry_step, external_step, parameter_step, sub_step, word_step,
 };
 use crate::stops::bad_line;
-use rules::answer::PLACE;
+use rules::answer::Reason;
 use rules::line::{Expected, LineAnswer};
-use rules::reading::{Mode, Reading, Step};
+use rules::reading::{Mode, Reading, Step, Stop};
 
 // What line n does where it says this and the reading stands at m.
+#[tactic(auto, unfolding(rules::specs::Reading::step_of))]
 pub fn step_of(n: u32, m: Mode, answer: LineAnswer) -> Step
     ensures { result ≡ step_of n m answer }
 {
@@ -25,33 +26,27 @@ pub fn step_of(n: u32, m: Mode, answer: LineAnswer) -> Step
         LineAnswer::Code(word) => word_step(m, word),
         LineAnswer::Entered(e) => entry_step(m, e),
         LineAnswer::Mentioned(name) => external_step(m, name),
-        LineAnswer::Ignored => {
-            let expected = m.expected;
-            Step::Next(record_done(expected, m))
-        }
+        LineAnswer::Ignored => Step::Next(record_done(m.expected, m)),
         LineAnswer::Parameter(size) => parameter_step(m, size),
         LineAnswer::Sub => sub_step(m),
     }
 }
 
 // The reading of a file that ends before line n.
+#[tactic(auto, unfolding(rules::specs::Reading::at_end, rules::specs::Reading::is_header))]
 pub fn at_end(n: u32, m: Mode) -> Reading
     ensures { result ≡ at_end n m }
 {
-    let cut = Reading::Stopped {
-        number: PLACE,
+    let cut = Err(Stop {
+        number: Reason::Place.number(),
         line: n,
         column: 0,
-    };
-    if m.object.inside {
+    });
+    if m.object.inside || m.section.inside {
         return cut;
     }
-    if m.section.inside {
-        return cut;
-    }
-    let expected = m.expected;
-    match expected {
-        Expected::AnyHeader => Reading::Complete,
+    match m.expected {
+        Expected::AnyHeader => Ok(()),
         _ => cut,
     }
 }

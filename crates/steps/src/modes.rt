@@ -5,30 +5,11 @@ ghost use Rattle.rules.specs.Reading.{mode, at_start, expect, expect_records, re
 use rules::line::Expected;
 use rules::reading::{Mode, OpenBlock, OpenModule, OpenSection};
 
+#[tactic(auto, unfolding(rules::specs::Reading::at_start))]
 pub fn at_start() -> Mode
     ensures { result ≡ at_start }
 {
-    Mode {
-        expected: Expected::AnyHeader,
-        block: OpenBlock {
-            offset: 0,
-            count: 0,
-            remaining: 0,
-            subs: 0,
-        },
-        object: OpenModule {
-            inside: false,
-            title: 0,
-            line: 0,
-            entries: 0,
-            externals: 0,
-        },
-        section: OpenSection {
-            inside: false,
-            line: 0,
-            modules: 0,
-        },
-    }
+    Mode::default()
 }
 
 // The same module and section, with another line expected and another block open. It is made field by field: a struct that is
@@ -59,85 +40,80 @@ fn with_block(expected: Expected, block: OpenBlock, m: Mode) -> Mode
     }
 }
 
+#[tactic(auto, unfolding(rules::specs::Reading::expect))]
 pub fn expect(expected: Expected, m: Mode) -> Mode
     ensures { result ≡ expect expected m }
 {
-    let block = m.block;
-    with_block(expected, block, m)
+    with_block(expected, m.block, m)
 }
 
 // The same mode, made field by field.
 pub fn renewed(m: Mode) -> Mode
     ensures { result ≡ m }
 {
-    let expected = m.expected;
-    expect(expected, m)
+    with_block(m.expected, m.block, m)
 }
 
+#[tactic(auto, unfolding(rules::specs::Reading::expect_records))]
 pub fn expect_records(expected: Expected, offset: u16, count: u16, m: Mode) -> Mode
     ensures { result ≡ expect_records expected offset count m }
 {
+    let next = if count == 0 {
+        Expected::AnyHeader
+    } else {
+        expected
+    };
     let block = OpenBlock {
         offset,
         count,
         remaining: count,
         subs: 0,
     };
-    if count == 0 {
-        return with_block(Expected::AnyHeader, block, m);
-    }
-    with_block(expected, block, m)
+    with_block(next, block, m)
 }
 
+#[tactic(auto, unfolding(rules::specs::Reading::record_done))]
 pub fn record_done(expected: Expected, m: Mode) -> Mode
     ensures { result ≡ record_done expected m }
 {
     let remaining = m.block.remaining;
-    if remaining <= 1 {
-        let last = OpenBlock {
-            offset: m.block.offset,
-            count: m.block.count,
-            remaining: 0,
-            subs: 0,
-        };
-        return with_block(Expected::AnyHeader, last, m);
-    }
-    let block = OpenBlock {
-        offset: m.block.offset,
-        count: m.block.count,
-        remaining: remaining - 1,
-        subs: 0,
+    let next = if remaining <= 1 {
+        Expected::AnyHeader
+    } else {
+        expected
     };
-    with_block(expected, block, m)
+    let block = OpenBlock {
+        remaining: remaining.saturating_sub(1),
+        subs: 0,
+        ..m.block
+    };
+    with_block(next, block, m)
 }
 
+#[tactic(auto, unfolding(rules::specs::Reading::expect_subs))]
 pub fn expect_subs(size: u16, m: Mode) -> Mode
     ensures { result ≡ expect_subs size m }
 {
     let block = OpenBlock {
-        offset: m.block.offset,
-        count: m.block.count,
-        remaining: m.block.remaining,
         subs: size,
+        ..m.block
     };
     with_block(Expected::SubRecord, block, m)
 }
 
+#[tactic(auto, unfolding(rules::specs::Reading::enter_module))]
 pub fn enter_module(title: u64, m: Mode) -> Mode
     ensures { result ≡ enter_module title m }
 {
-    let block = m.block;
-    let section = m.section;
     Mode {
         expected: Expected::AnyHeader,
-        block,
         object: OpenModule {
             inside: true,
             title,
-            line: m.object.line,
             entries: 0,
             externals: 0,
+            ..m.object
         },
-        section,
+        ..m
     }
 }

@@ -186,12 +186,8 @@ fn show_stop(rt: &impl Print, number: u64, line: u64, column: u64) {
 
 fn show_reading(rt: &impl Print, reading: Reading) {
     match reading {
-        Reading::Complete => say(rt, b": complete"),
-        Reading::Stopped {
-            number,
-            line,
-            column,
-        } => show_stop(rt, number, line as u64, column as u64),
+        Ok(_) => say(rt, b": complete"),
+        Err(stop) => show_stop(rt, stop.number, stop.line as u64, stop.column as u64),
     }
 }
 

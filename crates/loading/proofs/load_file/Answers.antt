@@ -9,9 +9,9 @@ use Rattle.loading.proofs.load_file.Goals as goal
 pub walk_file-requires : goal.walk_file-requires
 walk_file-requires c = record { n_le_most_cells = omega (arith, c.read_file-f.ensures.few_rows); every = items_in_sound c.read_file-f.ensures; good = c.requires.good }
 
-pub returns-in-Stopped : goal.returns-in-Stopped
+pub returns-in-Err : goal.returns-in-Err
 unfolding mark_of
-returns-in-Stopped c = file_stopped (decode c.args.state.now) c.args.file.now c.args.state.now c.answer.result _ _ _ _ (sym c.in-Stopped.is ∙ c.read_file-f.ensures.reading) c.set_mark.ensures c.answer.ensures
+returns-in-Err c = file_stopped (decode c.args.state.now) c.args.file.now c.args.state.now c.answer.result _ _ _ _ (sym c.in-Err.is ∙ c.read_file-f.ensures.reading) c.set_mark.ensures c.answer.ensures
 
-pub returns-in-Complete : goal.returns-in-Complete
-returns-in-Complete c = file_walked (decode c.args.state.now) c.args.file.now c.args.state.now c.walk_file.result _ _ (sym c.in-Complete.is ∙ c.read_file-f.ensures.reading) (tables_hold c.read_file-f.ensures) c.walk_file.ensures
+pub returns-in-Ok : goal.returns-in-Ok
+returns-in-Ok c = file_walked (decode c.args.state.now) c.args.file.now c.args.state.now c.walk_file.result _ _ (sym c.in-Ok.is ∙ c.read_file-f.ensures.reading) (tables_hold c.read_file-f.ensures) c.walk_file.ensures

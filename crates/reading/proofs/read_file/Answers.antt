@@ -8,14 +8,14 @@ use Rattle.reading.proofs.read_file.Goals as goal
 pub read_lines-read-requires : goal.read_lines-read-requires
 read_lines-read-requires c = begins_file c.at_start.ensures c.requires
 
-pub returns-in-Clean : goal.returns-in-Clean
+pub returns-in-Ok : goal.returns-in-Ok
 unfolding ended_at
-returns-in-Clean c =
+returns-in-Ok c =
     file_read_lem c.at_start.ensures c.read_lines-read.ensures
-    (c.at_end.ensures ∙ sym (ap ended_at c.in-Clean.is)) c.ended.ensures
+    (c.at_end.ensures ∙ sym (ap ended_at c.in-Ok.is)) c.ended.ensures
 
-pub returns-in-Fault : goal.returns-in-Fault
+pub returns-in-Err : goal.returns-in-Err
 unfolding ended_at
-returns-in-Fault c =
+returns-in-Err c =
     file_read_lem c.at_start.ensures c.read_lines-read.ensures
-    (sym (ap ended_at c.in-Fault.is)) c.ended-in-Fault.ensures
+    (sym (ap ended_at c.in-Err.is)) c.ended-in-Err.ensures

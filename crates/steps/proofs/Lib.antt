@@ -1,3 +1,0 @@
-pub mod CaseLaws
-pub mod TitleLaws
-pub mod EndLaws
