@@ -5,7 +5,7 @@ use mathlib.Core.Bool.{Bool, true, false, cond, ◌||◌, true≢false, false≢
 use mathlib.Core.List.{List, [], ◌∷◌, ◌++◌}
 use mathlib.Core.Logic.{◌≢◌}
 use mathlib.Core.Option.{none, some}
-use mathlib.Core.Path.{◌≡◌, refl, sym, ap, subst, ◌∙◌}
+use mathlib.Core.Path.{◌≡◌, refl, sym, ap, ◌∙◌}
 use native.Mathlib.Nat.{zero-add}
 use lib.ListN.{length, drop}
 use lib.Dec.{leb}
@@ -17,11 +17,9 @@ use Rattle.rules.specs.Text.{any, is_name, pack_name, name_of, name_over}
 use Rattle.rules.specs.State.{Symbol, State, Mark, unmarked, broken, frozen, fresh, marked, name_is, is_symbol}
 use Rattle.rules.specs.Placing.{mention}
 use Rattle.rules.specs.Image.{image_of}
-use Rattle.rules.specs.Calls.{Lent, wrong_length, damaged, holding, shut_by, Outcome, call_answer, stopped, done, with_symbols, reset, base_state, base, force_state_over, force, force_over, EndOutcome, end_answer, end_stopped, end_done, is_broken, end_state, end}
-use Rattle.rules.specs.declared.answer.CallAnswer.{CallAnswer}
-use Rattle.rules.specs.declared.answer.EndAnswer.{EndAnswer}
-use Rattle.state.specs.Layout.{size, lent, lent_over, sound_cells, encode, decode, mark_cell}
-use Rattle.state.specs.Good.{Good, Holds, with_next}
+use Rattle.rules.specs.Calls.{Lent, wrong_length, damaged, holding, shut_by, call_answer, stopped, done, with_symbols, reset, base_state, base, force_state_over, force, force_over, EndOutcome, end_answer, end_stopped, end_done, is_broken, end_state, end}
+use Rattle.state.specs.Layout.{size, lent, lent_over, sound_cells, decode}
+use Rattle.state.specs.Good.{Holds, with_next}
 use Rattle.state.specs.Table.{Joined}
 use Rattle.image.specs.Output.{overlay, Written}
 use Rattle.state.proofs.LentLaws.{lent_wrong, held_cells}
@@ -191,15 +189,15 @@ module _ {cells : List ℕ} (out : List ℕ) where
     end_short l =
         ended_stopped (simp (r.holds refl, whole_mark (decode cells).mark q, lt-ltb (length out) (length (image_of (decode cells))) (omega arith)))
 
-    done_if : n ≤ length out → end (lent cells) out ≡ end_done (decode cells) (image_of (decode cells)) out
+    ends_if : n ≤ length out → end (lent cells) out ≡ end_done (decode cells) (image_of (decode cells)) out
     unfolding end end_state
-    done_if l = simp (r.holds refl, whole_mark (decode cells).mark q, le-ltb (length out) (length (image_of (decode cells))) (omega arith))
+    ends_if l = simp (r.holds refl, whole_mark (decode cells).mark q, le-ltb (length out) (length (image_of (decode cells))) (omega arith))
 
     pub end_written : {after written : List ℕ} {behind : ℕ} → n ≤ length out → Written 0 (image_of (decode cells)) out written behind →
         Holds after (marked frozen (decode cells)) → Ended (end (lent cells) out) cells (end_answer 0 n) after written
     unfolding overlay
     end_written l w h =
-        let e = done_if l in
+        let e = ends_if l in
         record {
           call = rw size (called_done (ap (λ (x : EndOutcome). x.call) e) h);
           output =
