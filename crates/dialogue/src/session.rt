@@ -1,0 +1,88 @@
+// The memory of a dialogue, and its commands.
+use crate::command::Command;
+use crate::files::{deliver, not_found, read_file, write_file};
+use crate::input::TooLong;
+use crate::listing::{write_end, write_high, write_table, write_undefined};
+use crate::page::{Page, say};
+use crate::refusals::{Fault, write_refusal};
+use crate::tape::feed_file;
+use linker::{
+    FEED_CELLS, STATE_CELLS, WORK_CELLS, lnk100_base, lnk100_close, lnk100_end, lnk100_force,
+    lnk100_load, lnk100_memory, lnk100_reset, lnk100_undefined,
+};
+use rules::answer::{DONE, LoadAnswer};
+use rules::limits::LONGEST_FILE;
+use std::io::{Eprint, Print};
+use std::rt::Files;
+use text::numbers::{Number, read_number};
+
+// One byte more than a file may have, so that a longer one is told.
+const ROOM: usize = LONGEST_FILE + 1;
+
+// What the calls are lent, and room for what a command reads or writes: the file of L, the image of E, the text of the others.
+#[derive(Drop)]
+pub struct Session {
+    state: [u64; STATE_CELLS],
+    work: [u64; WORK_CELLS],
+    feed: [u64; FEED_CELLS],
+    room: [u8; ROOM],
+}
+
+impl Session {
+    // The zeros are the fresh state, and a feed with no open load.
+    pub fn new() -> Self {
+        Session {
+            state: [0; STATE_CELLS],
+            work: [0; WORK_CELLS],
+            feed: [0; FEED_CELLS],
+            room: [0; ROOM],
+        }
+    }
+
+    // A command that stands alone.
+    pub fn obey(&mut self, rt: &(impl Print + Eprint), command: Command) {
+        match command {
+            Command::Nothing => (),
+            Command::Reset => self.reset(rt),
+            Command::Memory => self.memory(rt),
+            _ => say(rt, b"?\n"),
+        }
+    }
+
+    // A command on its operand; there is none where the line behind the command has no text, is too long, or is missing.
+    pub fn obey_on(
+        &mut self,
+        rt: &(impl Files + Print + Eprint),
+        command: Command,
+        line: Option<Result<&[u8], TooLong>>,
+    ) {
+        let operand = match line {
+            Some(Ok(text)) => text,
+            _ => b"",
+        };
+        if operand.is_empty() {
+            say(rt, b"?\n");
+            return;
+        }
+        match command {
+            Command::Load => self.load(rt, operand),
+            Command::Tape => self.load_tape(rt, operand),
+            Command::Force => self.force(rt, operand),
+            Command::Base => self.base(rt, operand),
+            Command::Symbols => self.symbols(rt, operand),
+            Command::Undefined => self.undefined(rt, operand),
+            Command::End => self.end(rt, operand),
+            _ => say(rt, b"?\n"),
+        }
+    }
+
+    // Tells a refusal; nothing where the call was done.
+    fn tell(&mut self, rt: &(impl Print + Eprint), fault: Fault) {
+        if fault.number == DONE {
+            return;
+        }
+        let mut page = Page::new(&mut self.room);
+        let _ = write_refusal(&mut page, fault);
+        say(rt, page.text());
+    }
+}
