@@ -6,6 +6,7 @@ use native.Mathlib.Omega.{arith}
 use mathlib.Core.Bool.{Bool, true, false, not, ◌&&◌}
 use mathlib.Core.List.{List, [], ◌∷◌}
 use mathlib.Core.Option.{none}
+use Rattle.std.specs.Prelude.{Option}
 use mathlib.Core.Path.{◌≡◌, refl, sym, ap, ap₂, ◌∙◌}
 use lib.ListN.{length, drop, get_or}
 use lib.Dec.{leb}
@@ -13,10 +14,9 @@ use borrow.Author.Tests.{eq-eqb, ne_eqb, leb-true}
 use Rattle.rules.specs.Text.{space, all, is_octal, octal, is_number, number_of}
 use Rattle.text.specs.Scan.{part, past, is_not, InFile}
 use Rattle.text.specs.FieldBounds.{is_space, field_start, field_stop}
-use Rattle.text.specs.Values.{number_in, small}
+use Rattle.text.specs.Values.{value_in, small}
 use Rattle.text.specs.Digits.{DigitsRead, field_text, FieldRead}
 use Rattle.text.specs.declared.numbers.DigitRun.{DigitRun}
-use Rattle.text.specs.declared.numbers.Number.{Number}
 use Rattle.text.proofs.ScanLaws.{part_nil, part_cons, part_all, length_part, all_part, past_end, past_stop, past_step, past_over, all_stop, between_yes, and_false, too_short, too_long}
 
 -- ---- the loop
@@ -197,7 +197,7 @@ module _ {at stop : ℕ} {file : List ℕ} {r : DigitRun} (h : InFile at stop fi
     width : length (part at r.end file) ≡ r.end - at
     width = length_part at r.end file (omega (arith, d.to, h.size))
 
-    field_read : {n : Number} → number_in n ≡ small r.value → FieldRead at stop file (record { number = n; end = r.end })
+    field_read : {n : Option ℕ} → value_in n ≡ small r.value → FieldRead at stop file (record { number = n; end = r.end })
     field_read e =
         record {
           is =
@@ -208,11 +208,11 @@ module _ {at stop : ℕ} {file : List ℕ} {r : DigitRun} (h : InFile at stop fi
           ends = omega (arith, ap length text_is, width, d.from);
         }
 
-  pub line_ends : r.end ≡ stop → {n : Number} → number_in n ≡ small r.value → FieldRead at stop file (record { number = n; end = r.end })
+  pub line_ends : r.end ≡ stop → {n : Option ℕ} → value_in n ≡ small r.value → FieldRead at stop file (record { number = n; end = r.end })
   line_ends e = field_read (past_end (is_not space) r.end stop file (omega arith))
 
   pub space_ends :
-      (r.end ≡ stop → ⊥) → get_or file r.end 0 ≡ space → {n : Number} → number_in n ≡ small r.value
+      (r.end ≡ stop → ⊥) → get_or file r.end 0 ≡ space → {n : Option ℕ} → value_in n ≡ small r.value
       → FieldRead at stop file (record { number = n; end = r.end })
   space_ends f e =
       field_read

@@ -4,7 +4,7 @@ use Rattle.rules.specs.Limits.{most_digits}
 use Rattle.rules.specs.Text.{space, all, is_octal, octal, number_of}
 use Rattle.text.specs.Scan.{part, past, is_not}
 use Rattle.text.specs.FieldBounds.{field_start, field_stop}
-use Rattle.text.specs.Values.{number_in}
+use Rattle.text.specs.Values.{value_in}
 use Rattle.text.specs.declared.numbers.DigitRun.{DigitRun}
 use Rattle.text.specs.declared.numbers.NumberField.{NumberField}
 
@@ -24,5 +24,5 @@ field_text at stop file = part (field_start at stop file) (field_stop at stop fi
 
 -- r is the next field as a number, and how far the field reaches from `at` on
 pub record FieldRead (at stop : ℕ) (file : List ℕ) (r : NumberField) : Type 0 where
-  pub is : number_in r.number ≡ number_of (field_text at stop file)
+  pub is : value_in r.number ≡ number_of (field_text at stop file)
   pub ends : r.end ≡ at + length (field_text at stop file)

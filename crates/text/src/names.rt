@@ -1,16 +1,9 @@
 // Names: one to six characters, A to Z, 0 to 9, $ and the dot, the first a letter.
 ghost use Rattle.std.specs.Prelude.{◌≡◌};
 ghost use Rattle.rules.specs.Text.{between, is_letter, is_name_character, is_name, pack_name, name_of};
-ghost use Rattle.text.specs.Values.{name_in, ByteAt};
+ghost use Rattle.text.specs.Values.{value_in, ByteAt};
 
 use rules::limits::LONGEST_NAME;
-
-#[derive(Clone, Copy)]
-pub enum Name {
-    // The name's six bytes in base 256, the first highest, 0 where it is shorter.
-    Packed(u64),
-    NotAName,
-}
 
 fn is_between(low: u8, high: u8, byte: u8) -> bool
     ensures { result ≡ between low high byte }
@@ -78,11 +71,12 @@ fn pack_name(field: &[u8]) -> u64
     name * 256 + byte_or_zero(field, 5)
 }
 
-pub fn read_name(field: &[u8]) -> Name
-    ensures { name_in result ≡ name_of field.now }
+// The packed name, where the field is one: its six bytes in base 256, the first highest, 0 where it is shorter.
+pub fn read_name(field: &[u8]) -> Option<u64>
+    ensures { value_in result ≡ name_of field.now }
 {
     if !is_name(field) {
-        return Name::NotAName;
+        return None;
     }
-    Name::Packed(pack_name(field))
+    Some(pack_name(field))
 }

@@ -3,18 +3,12 @@ ghost use Rattle.std.specs.Prelude.{◌≡◌, ◌+◌, ◌≤◌, min};
 ghost use Rattle.rules.specs.Limits.{most_digits};
 ghost use Rattle.rules.specs.Text.{number_of};
 ghost use Rattle.text.specs.Scan.{InFile};
-ghost use Rattle.text.specs.Values.{number_in, small};
+ghost use Rattle.text.specs.Values.{value_in, small};
 ghost use Rattle.text.specs.Digits.{DigitsRead, FieldRead};
 
 use crate::fields::next_field;
 use crate::scan::SPACE;
 use rules::limits::{LARGEST_NUMBER, MOST_DIGITS};
-
-#[derive(Clone, Copy)]
-pub enum Number {
-    Value(u16),
-    NotANumber,
-}
 
 // Digits at the front of a text, at most six: their value, and where they end.
 #[derive(Clone, Copy)]
@@ -55,28 +49,28 @@ pub fn digits(file: &[u8], at: usize, stop: usize) -> DigitRun
     DigitRun { value, end: i }
 }
 
-fn as_number(value: u32) -> Number
-    ensures { number_in result ≡ small value }
+fn as_number(value: u32) -> Option<u16>
+    ensures { value_in result ≡ small value }
 {
     if LARGEST_NUMBER < value {
-        return Number::NotANumber;
+        return None;
     }
-    Number::Value(value as u16)
+    Some(value as u16)
 }
 
-pub fn read_number(field: &[u8]) -> Number
-    ensures { number_in result ≡ number_of field.now }
+pub fn read_number(field: &[u8]) -> Option<u16>
+    ensures { value_in result ≡ number_of field.now }
 {
     let n = field.len();
     if n == 0 {
-        return Number::NotANumber;
+        return None;
     }
     if MOST_DIGITS < n {
-        return Number::NotANumber;
+        return None;
     }
     let run = digits(field, 0, n);
     if run.end != n {
-        return Number::NotANumber;
+        return None;
     }
     as_number(run.value)
 }
@@ -84,7 +78,7 @@ pub fn read_number(field: &[u8]) -> Number
 // A field as a number, and where the field ends where it starts at the position asked for.
 #[derive(Clone, Copy)]
 pub struct NumberField {
-    pub number: Number,
+    pub number: Option<u16>,
     pub end: usize,
 }
 
