@@ -4,17 +4,17 @@ use crate::files::{deliver, not_found, read_file, write_file};
 use crate::input::TooLong;
 use crate::listing::{write_end, write_high, write_table, write_undefined};
 use crate::page::{Page, say};
-use crate::refusals::{Fault, write_refusal};
+use crate::refusals::tell;
 use crate::tape::feed_file;
 use linker::{
     FEED_CELLS, STATE_CELLS, WORK_CELLS, lnk100_base, lnk100_close, lnk100_end, lnk100_force,
     lnk100_load, lnk100_memory, lnk100_reset, lnk100_undefined,
 };
-use rules::answer::{DONE, LoadAnswer};
+use rules::answer::LoadAnswer;
 use rules::limits::LONGEST_FILE;
 use std::io::{Eprint, Print};
 use std::rt::Files;
-use text::numbers::{Number, read_number};
+use text::numbers::read_number;
 
 // One byte more than a file may have, so that a longer one is told.
 const ROOM: usize = LONGEST_FILE + 1;
@@ -76,13 +76,89 @@ impl Session {
         }
     }
 
-    // Tells a refusal; nothing where the call was done.
-    fn tell(&mut self, rt: &(impl Print + Eprint), fault: Fault) {
-        if fault.number == DONE {
+    fn reset(&mut self, rt: &(impl Print + Eprint)) {
+        let a = lnk100_reset(&mut self.state);
+        tell(rt, a.into());
+    }
+
+    fn memory(&mut self, rt: &(impl Print + Eprint)) {
+        let a = lnk100_memory(&self.state);
+        if tell(rt, a.into()) {
+            let mut page = Page::new(&mut self.room);
+            let _ = write_high(&mut page, a.high);
+            say(rt, page.text());
+        }
+    }
+
+    fn load(&mut self, rt: &(impl Files + Print + Eprint), path: &[u8]) {
+        let Some(length) = read_file(rt, path, &mut self.room) else {
+            not_found(rt);
+            return;
+        };
+        let a = lnk100_load(&mut self.state, &mut self.work, &self.room[..length]);
+        self.tell_load(rt, a);
+    }
+
+    // The same for a file that comes in pieces.
+    fn load_tape(&mut self, rt: &(impl Files + Print + Eprint), path: &[u8]) {
+        if feed_file(rt, &mut self.feed, path).is_none() {
+            not_found(rt);
+            return;
+        }
+        let a = lnk100_close(&mut self.feed, &mut self.state, &mut self.work);
+        self.tell_load(rt, a);
+    }
+
+    fn tell_load(&mut self, rt: &(impl Print + Eprint), a: LoadAnswer) {
+        if tell(rt, a.into()) && lnk100_undefined(&self.state, 0).none == 1 {
+            say(rt, b"LOAD COMPLETE\n");
+        }
+    }
+
+    fn force(&mut self, rt: &(impl Print + Eprint), name: &[u8]) {
+        let a = lnk100_force(&mut self.state, name);
+        tell(rt, a.into());
+    }
+
+    fn base(&mut self, rt: &(impl Print + Eprint), operand: &[u8]) {
+        let Some(address) = read_number(operand) else {
+            say(rt, b"?\n");
+            return;
+        };
+        let a = lnk100_base(&mut self.state, u64::from(address));
+        tell(rt, a.into());
+    }
+
+    fn symbols(&mut self, rt: &(impl Files + Print + Eprint), path: &[u8]) {
+        let a = lnk100_memory(&self.state);
+        if tell(rt, a.into()) {
+            let mut page = Page::new(&mut self.room);
+            let _ = write_table(&mut page, &self.state, a.high);
+            deliver(rt, path, page.text());
+        }
+    }
+
+    fn undefined(&mut self, rt: &(impl Files + Print + Eprint), path: &[u8]) {
+        let a = lnk100_undefined(&self.state, 0);
+        if tell(rt, a.into()) {
+            let mut page = Page::new(&mut self.room);
+            let _ = write_undefined(&mut page, &self.state);
+            deliver(rt, path, page.text());
+        }
+    }
+
+    // A refused END leaves the file alone. END can be asked again where the file could not be written.
+    fn end(&mut self, rt: &(impl Files + Print + Eprint), path: &[u8]) {
+        let a = lnk100_end(&mut self.state, &mut self.room);
+        if !tell(rt, a.into()) {
+            return;
+        }
+        if write_file(rt, path, &self.room[..a.length as usize]).is_none() {
+            not_found(rt);
             return;
         }
         let mut page = Page::new(&mut self.room);
-        let _ = write_refusal(&mut page, fault);
+        let _ = write_end(&mut page, &self.state);
         say(rt, page.text());
     }
 }
