@@ -94,7 +94,12 @@ fn is_text(byte: &u8) -> bool {
 
 fn trimmed(line: &[u8]) -> &[u8] {
     let text = line.strip_suffix(b"\r").unwrap_or(line);
-    let end = text.iter().rposition(is_text).map_or(0, |last| last + 1);
-    let start = text.iter().position(is_text).unwrap_or(end);
-    &text[start..end]
+    let text = match text.iter().rposition(is_text) {
+        Some(last) => &text[..last + 1],
+        None => &text[..0],
+    };
+    match text.iter().position(is_text) {
+        Some(first) => &text[first..],
+        None => text,
+    }
 }

@@ -16,7 +16,7 @@ pub fn write_high(page: &mut Page, high: u64) -> fmt::Result {
 pub fn write_table(page: &mut Page, state: &[u64], high: u64) -> fmt::Result {
     write_high(page, high)?;
     writeln!(page, "\nSYMBOL TABLE\n\nSYMBOL VALUE")?;
-    let mut nth = 0;
+    let mut undefined = (0..SYMBOLS).map(|nth| lnk100_undefined(state, nth));
     for index in 0..SYMBOLS {
         let s = lnk100_symbols(state, index);
         if s.none == 1 {
@@ -26,10 +26,9 @@ pub fn write_table(page: &mut Page, state: &[u64], high: u64) -> fmt::Result {
         if s.defined == 1 {
             let value = s.value;
             writeln!(page, "{name} {value:06o}")?;
-        } else {
-            let highest = lnk100_undefined(state, nth).highest;
+        } else if let Some(u) = undefined.next() {
+            let highest = u.highest;
             writeln!(page, "{name} {highest:06o} U")?;
-            nth += 1;
         }
     }
     Ok(())

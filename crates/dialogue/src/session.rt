@@ -153,7 +153,8 @@ impl Session {
         if !tell(rt, a.into()) {
             return;
         }
-        if write_file(rt, path, &self.room[..a.length as usize]).is_none() {
+        let image = self.room.get(..a.length as usize).unwrap_or(&self.room);
+        if write_file(rt, path, image).is_none() {
             not_found(rt);
             return;
         }
