@@ -4,16 +4,10 @@ use linker::{STATE_CELLS, WORK_CELLS, lnk100_load};
 use rules::answer::LoadAnswer;
 use rules::limits::LONGEST_FILE;
 use std::io::Print;
-use test_script::say;
+use test_script::{front, say};
 
 // One cell more than work memory has, so that what stands behind it is seen too.
 pub const MORE_CELLS: usize = WORK_CELLS + 1;
-
-// The first cells, or all of them where there are not so many.
-fn front(cells: &mut [u64], size: usize) -> &mut [u64] {
-    let n = size.min(cells.len());
-    &mut cells[..n]
-}
 
 fn tell(rt: &impl Print, a: LoadAnswer) {
     let _ = print!(rt;

@@ -104,6 +104,12 @@ pub fn number_of(digits: &[u8]) -> u64 {
     digits.iter().fold(0, |n: u64, digit| n % 1000000 * 10 + u64::from(*digit % 16))
 }
 
+// The first cells, or all of them where there are not so many.
+pub fn front(cells: &mut [u64], size: usize) -> &mut [u64] {
+    let n = size.min(cells.len());
+    &mut cells[..n]
+}
+
 // What cannot be written is missed where the output is held to the stored one.
 pub fn say(rt: &impl Print, text: &[u8]) {
     let _ = rt.write_all(text);
