@@ -11,33 +11,33 @@ use rules::answer::{
 
 // The name of the answer with this number, nothing where there is none.
 #[tactic(auto, unfolding(rules::specs::Answers::answer_name, rules::specs::Answers::name_in, rules::specs::Answers::answers, rules::specs::Text::bytes))]
-pub fn answer_name(number: u64) -> &'static [u8]
+pub fn answer_name(number: u64) -> &'static str
     ensures { result.now ≡ answer_name number }
 {
     match number {
-        DONE => b"DONE",
-        BUFFER => b"BUFFER",
-        DAMAGED => b"DAMAGED",
-        RESET => b"RESET",
-        FROZEN => b"FROZEN",
-        TOO_LONG => b"TOO LONG",
-        LINE => b"LINE",
-        PLACE => b"PLACE",
-        LIST => b"LIST",
-        ROOM => b"ROOM",
-        OVERLAP => b"OVERLAP",
-        ARG => b"ARG",
-        RANGE => b"RANGE",
-        DUPLICATE => b"DUPLICATE",
-        TABLE => b"TABLE",
-        NAME => b"NAME",
-        OUT => b"OUT",
-        FIELDS => b"FIELDS",
-        NUMBER => b"NUMBER",
-        SYMBOL => b"SYMBOL",
-        MARKER => b"MARKER",
-        TYPE => b"TYPE",
-        FEED => b"FEED",
-        _ => b"",
+        DONE => "DONE",
+        BUFFER => "BUFFER",
+        DAMAGED => "DAMAGED",
+        RESET => "RESET",
+        FROZEN => "FROZEN",
+        TOO_LONG => "TOO LONG",
+        LINE => "LINE",
+        PLACE => "PLACE",
+        LIST => "LIST",
+        ROOM => "ROOM",
+        OVERLAP => "OVERLAP",
+        ARG => "ARG",
+        RANGE => "RANGE",
+        DUPLICATE => "DUPLICATE",
+        TABLE => "TABLE",
+        NAME => "NAME",
+        OUT => "OUT",
+        FIELDS => "FIELDS",
+        NUMBER => "NUMBER",
+        SYMBOL => "SYMBOL",
+        MARKER => "MARKER",
+        TYPE => "TYPE",
+        FEED => "FEED",
+        _ => "",
     }
 }

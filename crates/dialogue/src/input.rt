@@ -1,164 +1,105 @@
-// Standard input by lines. It is read in pieces into the lent bytes `keys`; a line is put into the lent bytes `line`.
+// Standard input by lines. It is read ahead in pieces.
+ghost use Rattle.std.specs.Prelude.{◌≤◌};
 
-use crate::page::between;
-use std::io;
 use std::io::{Eprint, Read};
 
+// Bytes that are read at once.
+const READ_AHEAD: usize = 4096;
+
+// The longest path and a CR.
+const LONGEST_COMMAND: usize = 4096;
+
+// A line that is longer than any command or path.
 #[derive(Clone, Copy)]
-pub struct Reader {
-    // The bytes of `keys` from at to end were read and not yet taken.
-    pub at: usize,
-    pub end: usize,
-    // Standard input has ended.
-    pub is_over: bool,
-    // Of the present line: its length so far, whether it is longer than `line`, and whether it is whole.
-    pub length: usize,
-    pub is_long: bool,
-    pub is_whole: bool,
-    // The dialogue has ended.
-    pub has_quit: bool,
+pub struct TooLong;
+
+#[derive(Drop)]
+pub struct Lines<S> {
+    source: S,
+    // The bytes of `keys` from `at` to `end` were read and not yet taken.
+    keys: [u8; READ_AHEAD],
+    at: usize,
+    end: usize,
+    // Standard input has ended, and is not read again.
+    is_over: bool,
+    line: [u8; LONGEST_COMMAND],
+    ghost within: { end ≤ 4096 },
 }
 
-pub fn new_reader() -> Reader {
-    Reader {
-        at: 0,
-        end: 0,
-        is_over: false,
-        length: 0,
-        is_long: false,
-        is_whole: false,
-        has_quit: false,
-    }
-}
-
-// A failed read ends the input as its end does, so standard error is told.
-fn tell_failed(rt: &impl Eprint, e: io::Error) {
-    let _ = eprintln!(rt; "standard input: {e}");
-}
-
-// One read of standard input: how many bytes of `keys` it gave.
-fn read_keys<S: Read>(rt: &impl Eprint, source: &mut S, keys: &mut [u8]) -> usize {
-    match source.read(keys) {
-        Ok(n) => n,
-        Err(e) => {
-            tell_failed(rt, e);
-            0
+impl<S: Read + Drop> Lines<S> {
+    pub fn new(source: S) -> Self {
+        Lines {
+            source,
+            keys: [0; READ_AHEAD],
+            at: 0,
+            end: 0,
+            is_over: false,
+            line: [0; LONGEST_COMMAND],
         }
     }
-}
 
-// Reads the next piece.
-fn refilled<S: Read>(rt: &impl Eprint, source: &mut S, keys: &mut [u8], mut r: Reader) -> Reader {
-    let n = read_keys(rt, source, keys);
-    r.at = 0;
-    r.end = n;
-    if n == 0 {
-        r.is_over = true;
-        r.is_whole = true;
+    // A failed read ends the input as its end does, so standard error is told.
+    fn refill(&mut self, rt: &impl Eprint) {
+        self.at = 0;
+        self.end = match self.source.read(&mut self.keys) {
+            Ok(n) => n,
+            Err(e) => {
+                let _ = eprintln!(rt; "standard input: {e}");
+                0
+            }
+        };
+        self.is_over = self.end == 0;
     }
-    r
-}
 
-// Adds a byte to the line, or ends it.
-fn taken_in(line: &mut [u8], mut r: Reader, byte: u8) -> Reader {
-    if byte == b'\n' {
-        r.is_whole = true;
-        return r;
-    }
-    let length = r.length;
-    if length < line.len() {
-        line[length] = byte;
-        r.length = length + 1;
-        return r;
-    }
-    r.is_long = true;
-    r
-}
-
-fn one_byte<S: Read>(
-    rt: &impl Eprint,
-    source: &mut S,
-    keys: &mut [u8],
-    line: &mut [u8],
-    mut r: Reader,
-) -> Reader {
-    let at = r.at;
-    if at >= r.end {
-        return refilled(rt, source, keys, r);
-    }
-    if at >= keys.len() {
-        return refilled(rt, source, keys, r);
-    }
-    r.at = at + 1;
-    taken_in(line, r, keys[at])
-}
-
-// The next line, read to its end also where it is overlong. Behind the last line stands one with no bytes.
-pub fn read_line<S: Read>(
-    rt: &impl Eprint,
-    source: &mut S,
-    keys: &mut [u8],
-    line: &mut [u8],
-    last: Reader,
-) -> Reader {
-    let mut r = last;
-    r.length = 0;
-    r.is_long = false;
-    r.is_whole = last.is_over;
-    for _ in 0..u64::MAX {
-        if r.is_whole {
-            return r;
+    fn next_byte(&mut self, rt: &impl Eprint) -> Option<u8> {
+        if self.at >= self.end && !self.is_over {
+            self.refill(rt);
         }
-        r = one_byte(rt, source, keys, line, r);
+        let byte = *self.keys[..self.end].get(self.at)?;
+        self.at += 1;
+        Some(byte)
     }
-    r
-}
 
-// There was no further line.
-pub fn is_end(r: Reader) -> bool {
-    r.is_over && r.length == 0 && !r.is_long
-}
-
-fn is_byte(line: &[u8], i: usize, byte: u8) -> bool {
-    if i < line.len() {
-        return line[i] == byte;
-    }
-    false
-}
-
-fn before_cr(line: &[u8], n: usize) -> usize {
-    if n > 0 {
-        if is_byte(line, n - 1, b'\r') {
-            return n - 1;
+    // The next line's text, without its CR and the spaces at both ends. It is read to its end also where it is too long.
+    pub fn next_line(&mut self, rt: &impl Eprint) -> Option<Result<&[u8], TooLong>> {
+        let mut length = 0;
+        let mut is_long = false;
+        for _ in 0..u64::MAX {
+            let Some(byte) = self.next_byte(rt) else {
+                if length == 0 && !is_long {
+                    return None;
+                }
+                break;
+            };
+            if byte == b'\n' {
+                break;
+            }
+            if length < LONGEST_COMMAND {
+                self.line[length] = byte;
+                length += 1;
+            } else {
+                is_long = true;
+            }
         }
-    }
-    n
-}
-
-fn before_spaces(line: &[u8], n: usize) -> usize {
-    let mut end = n;
-    while end > 0 {
-        if !is_byte(line, end - 1, b' ') {
-            return end;
+        if is_long {
+            return Some(Err(TooLong));
         }
-        end -= 1;
+        Some(Ok(trimmed(&self.line[..length])))
     }
-    end
 }
 
-fn behind_spaces(line: &[u8], end: usize) -> usize {
-    let mut i = 0;
-    while i < end {
-        if !is_byte(line, i, b' ') {
-            return i;
-        }
-        i += 1;
-    }
-    i
+fn is_text(byte: &u8) -> bool {
+    *byte != b' '
 }
 
-// The line's text: its CR and the spaces at both ends are dropped.
-pub fn text_of(line: &[u8], r: Reader) -> &[u8] {
-    let end = before_spaces(line, before_cr(line, r.length));
-    between(line, behind_spaces(line, end), end)
+fn trimmed(line: &[u8]) -> &[u8] {
+    let text = line.strip_suffix(b"\r").unwrap_or(line);
+    let text = match text.iter().rposition(is_text) {
+        Some(last) => &text[..last + 1],
+        None => &text[..0],
+    };
+    match text.iter().position(is_text) {
+        Some(first) => &text[first..],
+        None => text,
+    }
 }

@@ -1,66 +1,108 @@
 // The line for a refused call, and the line for advice.
-use crate::page::{front, put, put_number, put_text, say};
+use crate::page::{Page, say};
 use answers::answer_name;
-use rules::answer::{DONE, FeedAnswer, LoadAnswer, RESET};
+use rules::answer::{
+    CallAnswer, DONE, EndAnswer, FeedAnswer, LoadAnswer, MemoryAnswer, RESET, UndefinedAnswer,
+};
+use std::fmt;
+use std::fmt::Write;
 use std::io::{Eprint, Print};
 
-fn put_answer(page: &mut [u8], at: usize, number: u64) -> usize {
-    let n = answer_name(number);
-    let bytes = n.bytes;
-    put_text(page, at, front(&bytes, n.length))
+// An answer and the place that it names. A column of 0 is none, and is not told.
+#[derive(Clone, Copy)]
+pub struct Fault {
+    pub number: u64,
+    pub line: u64,
+    pub column: u64,
 }
 
-// A column of 0 is none, and is not told.
-fn put_column(page: &mut [u8], at: usize, column: u64) -> usize {
-    if column == 0 {
-        return at;
+impl fmt::Display for Fault {
+    fn fmt<W: fmt::Write>(&self, f: &mut fmt::Formatter<W>) -> fmt::Result {
+        let name = answer_name(self.number);
+        let number = self.number;
+        let line = self.line;
+        let column = self.column;
+        write!(f, "{name} {number:06o} LINE {line:06o}")?;
+        if column != 0 {
+            write!(f, " COLUMN {column:06o}")?;
+        }
+        Ok(())
     }
-    let end = put_text(page, at, b" COLUMN ");
-    put_number(page, end, column)
 }
 
-// An answer's name and number and the place that it names, to the line's end.
-fn put_fault(page: &mut [u8], at: usize, number: u64, line: u64, column: u64) -> usize {
-    let mut end = put_answer(page, at, number);
-    end = put(page, end, b' ');
-    end = put_number(page, end, number);
-    end = put_text(page, end, b" LINE ");
-    end = put_number(page, end, line);
-    end = put_column(page, end, column);
-    put(page, end, b'\n')
-}
+// The longest line has 46 bytes, and `RESET!!!` stands before one.
+const LONGEST: usize = 64;
 
-fn tell_at(rt: &(impl Print + Eprint), page: &mut [u8], number: u64, line: u64, column: u64) {
-    if number == RESET {
+// Tells a refusal. Was the call done?
+pub fn tell(rt: &(impl Print + Eprint), fault: Fault) -> bool {
+    if fault.number == DONE {
+        return true;
+    }
+    if fault.number == RESET {
         say(rt, b"RESET!!!\n");
     }
-    let mut end = put_text(page, 0, b"F ");
-    end = put_fault(page, end, number, line, column);
-    say(rt, front(page, end));
+    let mut bytes = [0u8; LONGEST];
+    let mut page = Page::new(&mut bytes);
+    let _ = writeln!(page, "F {fault}");
+    say(rt, page.text());
+    false
 }
 
-// A load alone names a column.
-pub fn load_refused(rt: &(impl Print + Eprint), page: &mut [u8], a: LoadAnswer) {
-    tell_at(rt, page, a.number, a.line, a.column);
-}
-
-pub fn refused(rt: &(impl Print + Eprint), page: &mut [u8], number: u64, line: u64) {
-    tell_at(rt, page, number, line, 0);
-}
-
-// Nothing where the call was done.
-pub fn tell(rt: &(impl Print + Eprint), page: &mut [u8], number: u64, line: u64) {
-    if number != DONE {
-        refused(rt, page, number, line);
-    }
-}
-
-// The fault that a piece brought to light, if it brought one.
-pub fn advise(rt: &(impl Print + Eprint), page: &mut [u8], a: FeedAnswer) {
-    if a.advice == 0 {
+// Tells the fault that a piece brought to light, if it brought one.
+pub fn advise(rt: &(impl Print + Eprint), a: FeedAnswer) {
+    let fault = Fault {
+        number: a.advice,
+        line: a.line,
+        column: a.column,
+    };
+    if fault.number == DONE {
         return;
     }
-    let mut end = put_text(page, 0, b"ADVICE ");
-    end = put_fault(page, end, a.advice, a.line, a.column);
-    say(rt, front(page, end));
+    let mut bytes = [0u8; LONGEST];
+    let mut page = Page::new(&mut bytes);
+    let _ = writeln!(page, "ADVICE {fault}");
+    say(rt, page.text());
+}
+
+// Of a load, which alone names a column.
+impl From<LoadAnswer> for Fault {
+    fn from(a: LoadAnswer) -> Self {
+        Fault {
+            number: a.number,
+            line: a.line,
+            column: a.column,
+        }
+    }
+}
+
+impl From<CallAnswer> for Fault {
+    fn from(a: CallAnswer) -> Self {
+        at_line(a.number, a.line)
+    }
+}
+
+impl From<MemoryAnswer> for Fault {
+    fn from(a: MemoryAnswer) -> Self {
+        at_line(a.number, a.line)
+    }
+}
+
+impl From<UndefinedAnswer> for Fault {
+    fn from(a: UndefinedAnswer) -> Self {
+        at_line(a.number, a.line)
+    }
+}
+
+impl From<EndAnswer> for Fault {
+    fn from(a: EndAnswer) -> Self {
+        at_line(a.number, a.line)
+    }
+}
+
+fn at_line(number: u64, line: u64) -> Fault {
+    Fault {
+        number,
+        line,
+        column: 0,
+    }
 }

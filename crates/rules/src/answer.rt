@@ -98,7 +98,7 @@ pub struct Refusal {
 
 // LOAD. column is that of a line's fault, and 0 where none is named.
 #[repr(C)]
-#[derive(Clone, Copy)]
+#[derive(Clone, Copy, PartialEq, Eq)]
 pub struct LoadAnswer {
     pub number: u64,
     pub line: u64,
@@ -108,7 +108,7 @@ pub struct LoadAnswer {
 
 // A piece of a file that is fed. advice, line and column are those of a fault that is told early, and 0 where none is.
 #[repr(C)]
-#[derive(Clone, Copy)]
+#[derive(Clone, Copy, PartialEq, Eq)]
 pub struct FeedAnswer {
     pub number: u64,
     pub advice: u64,

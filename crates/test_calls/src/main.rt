@@ -7,8 +7,14 @@ use linker::{
     STATE_CELLS, lnk100_base, lnk100_end, lnk100_force, lnk100_memory, lnk100_reset,
     lnk100_symbols, lnk100_undefined,
 };
-use rules::answer::EndAnswer;
 use std::io::Print;
+
+type State = [u64; STATE_CELLS];
+
+type Output = [u8; 64];
+
+// An output is all 7 before a call.
+const UNTOUCHED: Output = [7; 64];
 
 // ---- printing
 
@@ -17,266 +23,197 @@ fn word(rt: &impl Print, text: &[u8]) {
     let _ = rt.write_all(text);
 }
 
-fn number(rt: &impl Print, n: u64) {
-    word(rt, b" ");
-    let _ = rt.print(n);
-}
-
-// A packed name: its six bytes.
-fn packed(rt: &impl Print, name: u64) {
-    word(rt, b" ");
-    let _ = print!(rt; "{name:012x}");
+fn numbers(rt: &impl Print, all: &[u64]) {
+    for n in all {
+        let _ = print!(rt; " {n}");
+    }
 }
 
 fn end_line(rt: &impl Print) {
     word(rt, b"\n");
 }
 
-fn title(rt: &impl Print, text: &[u8]) {
-    word(rt, b"-- ");
-    word(rt, text);
-    end_line(rt);
-}
-
-fn wide(b: u8) -> u64 {
-    b as u64
+fn title(rt: &impl Print, text: &str) {
+    let _ = println!(rt; "-- {text}");
 }
 
 // Eleven bytes to a line, as long as a word's record.
-fn byte(rt: &impl Print, i: usize, b: u8) {
-    if i % 11 == 0 {
-        word(rt, b"\n ");
+fn written(rt: &impl Print, out: &Output) {
+    if *out == UNTOUCHED {
+        word(rt, b" untouched\n");
+        return;
     }
-    word(rt, b" ");
-    let _ = print!(rt; "{:02x}", wide(b));
-}
-
-fn bytes(rt: &impl Print, out: &[u8; 64]) {
-    let mut i = 0;
-    while i < 64 {
-        byte(rt, i, out[i]);
-        i += 1;
+    for (i, byte) in out.iter().enumerate() {
+        if i % 11 == 0 {
+            word(rt, b"\n ");
+        }
+        let _ = print!(rt; " {byte:02x}");
     }
     end_line(rt);
 }
 
-fn all_seven(out: &[u8; 64]) -> bool {
-    *out == [7u8; 64]
-}
-
-// An output that was all 7 before.
-fn written(rt: &impl Print, out: &[u8; 64]) {
-    if all_seven(out) {
-        word(rt, b" untouched\n");
-        return;
-    }
-    bytes(rt, out);
-}
-
-// ---- what a call leaves
-
-fn same(a: &[u64; STATE_CELLS], b: &[u64; STATE_CELLS]) -> bool {
-    let mut i = 0;
-    while i < STATE_CELLS {
-        if a[i] != b[i] {
-            return false;
-        }
-        i += 1;
-    }
-    true
-}
-
-fn all_are(cells: &[u64; 8709], cell: u64) -> bool {
-    let mut i = 0;
-    while i < 8709 {
-        if cells[i] != cell {
-            return false;
-        }
-        i += 1;
-    }
-    true
-}
-
-fn compare(rt: &impl Print, before: &[u64; STATE_CELLS], after: &[u64; STATE_CELLS]) {
-    if same(before, after) {
-        word(rt, b" same");
-        return;
-    }
-    word(rt, b" changed");
+fn compare(rt: &impl Print, before: &State, after: &State) {
+    let kept = if before == after { "same" } else { "changed" };
+    let _ = print!(rt; " {kept}");
 }
 
 // ---- a call, and its whole answer
 
-fn reset(rt: &impl Print, state: &mut [u64; STATE_CELLS]) {
-    let fresh = [0u64; STATE_CELLS];
+fn reset(rt: &impl Print, state: &mut State) {
     let a = lnk100_reset(state);
     word(rt, b"RESET");
-    number(rt, a.number);
-    number(rt, a.line);
-    if same(state, &fresh) {
+    numbers(rt, &[a.number, a.line]);
+    if *state == [0; STATE_CELLS] {
         word(rt, b" fresh");
     }
     end_line(rt);
 }
 
-fn force(rt: &impl Print, state: &mut [u64; STATE_CELLS], name: &[u8]) {
+fn force(rt: &impl Print, state: &mut State, name: &[u8]) {
     let before = *state;
     let a = lnk100_force(state, name);
     word(rt, b"FORCE ");
     word(rt, name);
     word(rt, b":");
-    number(rt, a.number);
-    number(rt, a.line);
+    numbers(rt, &[a.number, a.line]);
     compare(rt, &before, state);
     end_line(rt);
 }
 
-fn base(rt: &impl Print, state: &mut [u64; STATE_CELLS], address: u64) {
+fn base(rt: &impl Print, state: &mut State, address: u64) {
     let before = *state;
     let a = lnk100_base(state, address);
-    word(rt, b"BASE");
-    number(rt, address);
-    word(rt, b":");
-    number(rt, a.number);
-    number(rt, a.line);
+    let _ = print!(rt; "BASE {address}:");
+    numbers(rt, &[a.number, a.line]);
     compare(rt, &before, state);
     end_line(rt);
 }
 
-fn memory(rt: &impl Print, state: &[u64; STATE_CELLS]) {
+fn memory(rt: &impl Print, state: &State) {
     let m = lnk100_memory(state);
     word(rt, b"MEMORY");
-    number(rt, m.number);
-    number(rt, m.line);
-    number(rt, m.high);
+    numbers(rt, &[m.number, m.line, m.high]);
     end_line(rt);
 }
 
-fn symbol(rt: &impl Print, state: &[u64; STATE_CELLS], index: u64) {
+// A packed name is told by its six bytes.
+fn symbol(rt: &impl Print, state: &State, index: u64) {
     let s = lnk100_symbols(state, index);
-    word(rt, b"SYMBOLS");
-    number(rt, index);
-    word(rt, b":");
-    number(rt, s.number);
-    number(rt, s.line);
-    number(rt, s.none);
-    packed(rt, s.name);
-    number(rt, s.value);
-    number(rt, s.defined);
+    let _ = print!(rt; "SYMBOLS {index}:");
+    numbers(rt, &[s.number, s.line, s.none]);
+    let name = s.name;
+    let _ = print!(rt; " {name:012x}");
+    numbers(rt, &[s.value, s.defined]);
     end_line(rt);
 }
 
-fn undefined(rt: &impl Print, state: &[u64; STATE_CELLS], index: u64) {
+fn undefined(rt: &impl Print, state: &State, index: u64) {
     let s = lnk100_undefined(state, index);
-    word(rt, b"UNDEFINED");
-    number(rt, index);
-    word(rt, b":");
-    number(rt, s.number);
-    number(rt, s.line);
-    number(rt, s.none);
-    packed(rt, s.name);
-    number(rt, s.value);
-    number(rt, s.defined);
-    number(rt, s.highest);
+    let _ = print!(rt; "UNDEFINED {index}:");
+    numbers(rt, &[s.number, s.line, s.none]);
+    let name = s.name;
+    let _ = print!(rt; " {name:012x}");
+    numbers(rt, &[s.value, s.defined, s.highest]);
     end_line(rt);
 }
 
-fn end_in_front(state: &mut [u64; STATE_CELLS], out: &mut [u8], room: usize) -> EndAnswer {
-    if out.len() < room {
-        return lnk100_end(state, out);
-    }
-    lnk100_end(state, &mut out[..room])
-}
-
-// Into the first bytes of an output of 64 that is all 7.
-fn end(rt: &impl Print, state: &mut [u64; STATE_CELLS], room: usize) {
+// Into the first bytes of an output.
+fn end(rt: &impl Print, state: &mut State, room: usize) {
     let before = *state;
-    let mut out = [7u8; 64];
-    let a = end_in_front(state, &mut out, room);
-    word(rt, b"END into");
-    number(rt, room as u64);
-    word(rt, b":");
-    number(rt, a.number);
-    number(rt, a.line);
-    number(rt, a.length);
+    let mut out = UNTOUCHED;
+    let a = lnk100_end(state, &mut out[..room.min(64)]);
+    let _ = print!(rt; "END into {room}:");
+    numbers(rt, &[a.number, a.line, a.length]);
     compare(rt, &before, state);
     written(rt, &out);
 }
 
 // ---- every call, and its number
 
-// 0 FORCE, 1 BASE, 2 MEMORY, 3 SYMBOLS, 4 UNDEFINED, 5 END, 6 RESET.
-fn call(which: u64, state: &mut [u64], out: &mut [u8]) -> u64 {
-    match which {
-        0 => lnk100_force(state, b"NEW").number,
-        1 => lnk100_base(state, 7).number,
-        2 => lnk100_memory(state).number,
-        3 => lnk100_symbols(state, 0).number,
-        4 => lnk100_undefined(state, 0).number,
-        5 => lnk100_end(state, out).number,
-        _ => lnk100_reset(state).number,
+#[derive(Clone, Copy)]
+enum Call {
+    Force,
+    Base,
+    Memory,
+    Symbols,
+    Undefined,
+    End,
+    Reset,
+}
+
+// RESET stands last, since it is not tried on states that are kept.
+const CALLS: [Call; 7] = [
+    Call::Force,
+    Call::Base,
+    Call::Memory,
+    Call::Symbols,
+    Call::Undefined,
+    Call::End,
+    Call::Reset,
+];
+
+impl Call {
+    fn number(self, state: &mut [u64], out: &mut [u8]) -> u64 {
+        match self {
+            Call::Force => lnk100_force(state, b"NEW").number,
+            Call::Base => lnk100_base(state, 7).number,
+            Call::Memory => lnk100_memory(state).number,
+            Call::Symbols => lnk100_symbols(state, 0).number,
+            Call::Undefined => lnk100_undefined(state, 0).number,
+            Call::End => lnk100_end(state, out).number,
+            Call::Reset => lnk100_reset(state).number,
+        }
     }
 }
 
-fn attempt(rt: &impl Print, which: u64, state: &mut [u64; STATE_CELLS]) {
-    let before = *state;
-    let mut out = [7u8; 64];
-    number(rt, call(which, state, &mut out));
-    if !same(&before, state) {
+fn all_calls(rt: &impl Print, state: &mut State) {
+    word(rt, b"FORCE, BASE, MEMORY, SYMBOLS, UNDEFINED, END:");
+    for call in &CALLS[..6] {
+        let before = *state;
+        let mut out = UNTOUCHED;
+        numbers(rt, &[call.number(state, &mut out)]);
+        tell_touched(rt, before == *state, &out);
+    }
+    end_line(rt);
+}
+
+fn tell_touched(rt: &impl Print, kept: bool, out: &Output) {
+    if !kept {
         word(rt, b" changed");
     }
-    if !all_seven(&out) {
+    if *out != UNTOUCHED {
         word(rt, b" written");
     }
 }
 
-fn all_calls(rt: &impl Print, state: &mut [u64; STATE_CELLS]) {
-    word(rt, b"FORCE, BASE, MEMORY, SYMBOLS, UNDEFINED, END:");
-    attempt(rt, 0, state);
-    attempt(rt, 1, state);
-    attempt(rt, 2, state);
-    attempt(rt, 3, state);
-    attempt(rt, 4, state);
-    attempt(rt, 5, state);
-    end_line(rt);
-}
-
 // ---- states
 
-fn set(state: &mut [u64; STATE_CELLS], at: usize, value: u64) {
-    if at < STATE_CELLS {
-        state[at] = value;
+fn set(state: &mut State, at: usize, value: u64) {
+    if let Some(cell) = state.get_mut(at) {
+        *cell = value;
     }
 }
 
-fn define(state: &mut [u64; STATE_CELLS], symbol: usize, value: u64) {
+fn define(state: &mut State, symbol: usize, value: u64) {
     if symbol < 256 {
-        set(state, 260 + symbol, value);
+        state[260 + symbol] = value;
     }
 }
 
 // tag: 1 a plain word, 2 + i one that refers to symbol i.
-fn place(state: &mut [u64; STATE_CELLS], address: usize, text: u64, tag: u64) {
+fn place(state: &mut State, address: usize, text: u64, tag: u64) {
     if address < 4096 {
-        set(state, 516 + address, text);
-        set(state, 4612 + address, tag);
+        state[516 + address] = text;
+        state[4612 + address] = tag;
     }
 }
 
-fn enter(state: &mut [u64; STATE_CELLS], name: &[u8]) {
-    lnk100_force(state, name);
-}
-
-fn make_fresh(state: &mut [u64; STATE_CELLS]) {
-    lnk100_reset(state);
-}
-
 // MAIN is 3, SQ and LOW are undefined; a plain word, one that refers to MAIN, two that refer to SQ.
-fn prepare(state: &mut [u64; STATE_CELLS]) {
-    make_fresh(state);
-    enter(state, b"MAIN");
-    enter(state, b"SQ");
-    enter(state, b"LOW");
+fn prepare(state: &mut State) {
+    lnk100_reset(state);
+    lnk100_force(state, b"MAIN");
+    lnk100_force(state, b"SQ");
+    lnk100_force(state, b"LOW");
     define(state, 0, 65539);
     place(state, 0, 0x0001_0002_0003_0004, 1);
     place(state, 1, 65535, 2);
@@ -285,25 +222,17 @@ fn prepare(state: &mut [u64; STATE_CELLS]) {
     set(state, 1, 6);
 }
 
-// The n-th of 256 names.
-fn enter_nth(state: &mut [u64; STATE_CELLS], n: u8) {
-    enter(state, &[b'A', b'A' + n / 16, b'A' + n % 16]);
-}
-
 // 256 names, APP the first, AAA the last.
-fn fill(state: &mut [u64; STATE_CELLS]) {
-    let mut n: u8 = 255;
-    while 0 < n {
-        enter_nth(state, n);
-        n -= 1;
+fn fill(state: &mut State) {
+    for n in (0..=255u8).rev() {
+        lnk100_force(state, &[b'A', b'A' + n / 16, b'A' + n % 16]);
     }
-    enter_nth(state, 0);
 }
 
 // ---- the runs
 
-fn fresh_state(rt: &impl Print, state: &mut [u64; STATE_CELLS]) {
-    title(rt, b"a fresh state");
+fn fresh_state(rt: &impl Print, state: &mut State) {
+    title(rt, "a fresh state");
     reset(rt, state);
     memory(rt, state);
     symbol(rt, state, 0);
@@ -318,8 +247,8 @@ fn fresh_state(rt: &impl Print, state: &mut [u64; STATE_CELLS]) {
     reset(rt, state);
 }
 
-fn names(rt: &impl Print, state: &mut [u64; STATE_CELLS]) {
-    title(rt, b"names");
+fn names(rt: &impl Print, state: &mut State) {
+    title(rt, "names");
     force(rt, state, b"");
     force(rt, state, b"SEVENCH");
     force(rt, state, b"1A");
@@ -338,8 +267,8 @@ fn names(rt: &impl Print, state: &mut [u64; STATE_CELLS]) {
     undefined(rt, state, 3);
 }
 
-fn bases(rt: &impl Print, state: &mut [u64; STATE_CELLS]) {
-    title(rt, b"bases");
+fn bases(rt: &impl Print, state: &mut State) {
+    title(rt, "bases");
     base(rt, state, 4095);
     memory(rt, state);
     base(rt, state, 4096);
@@ -354,9 +283,9 @@ fn bases(rt: &impl Print, state: &mut [u64; STATE_CELLS]) {
 }
 
 // Request 4/14. The last but one of the names is a character too long, and the last is there already.
-fn dollar_and_dot(rt: &impl Print, state: &mut [u64; STATE_CELLS]) {
-    title(rt, b"names with dollar and dot");
-    make_fresh(state);
+fn dollar_and_dot(rt: &impl Print, state: &mut State) {
+    title(rt, "names with dollar and dot");
+    lnk100_reset(state);
     force(rt, state, b"A$B");
     force(rt, state, b"IO.1");
     force(rt, state, b"A.....");
@@ -375,9 +304,9 @@ fn dollar_and_dot(rt: &impl Print, state: &mut [u64; STATE_CELLS]) {
     end(rt, state, 5);
 }
 
-fn full_table(rt: &impl Print, state: &mut [u64; STATE_CELLS]) {
-    title(rt, b"a full table");
-    make_fresh(state);
+fn full_table(rt: &impl Print, state: &mut State) {
+    title(rt, "a full table");
+    lnk100_reset(state);
     fill(state);
     symbol(rt, state, 0);
     symbol(rt, state, 255);
@@ -391,8 +320,8 @@ fn full_table(rt: &impl Print, state: &mut [u64; STATE_CELLS]) {
     end(rt, state, 5);
 }
 
-fn prepared(rt: &impl Print, state: &mut [u64; STATE_CELLS]) {
-    title(rt, b"words and references");
+fn prepared(rt: &impl Print, state: &mut State) {
+    title(rt, "words and references");
     prepare(state);
     memory(rt, state);
     symbol(rt, state, 0);
@@ -404,7 +333,7 @@ fn prepared(rt: &impl Print, state: &mut [u64; STATE_CELLS]) {
     undefined(rt, state, 2);
     end(rt, state, 48);
     end(rt, state, 49);
-    title(rt, b"frozen");
+    title(rt, "frozen");
     end(rt, state, 49);
     end(rt, state, 48);
     force(rt, state, b"NEW");
@@ -419,13 +348,13 @@ fn prepared(rt: &impl Print, state: &mut [u64; STATE_CELLS]) {
     undefined(rt, state, 2);
     all_calls(rt, state);
     reset(rt, state);
-    title(rt, b"room to spare");
+    title(rt, "room to spare");
     prepare(state);
     end(rt, state, 60);
 }
 
-fn broken(rt: &impl Print, state: &mut [u64; STATE_CELLS]) {
-    title(rt, b"broken");
+fn broken(rt: &impl Print, state: &mut State) {
+    title(rt, "broken");
     prepare(state);
     set(state, 2, 1);
     force(rt, state, b"NEW");
@@ -445,10 +374,10 @@ fn broken(rt: &impl Print, state: &mut [u64; STATE_CELLS]) {
 }
 
 // The largest next address, value and text, at the last address.
-fn limits(rt: &impl Print, state: &mut [u64; STATE_CELLS]) {
-    title(rt, b"limits");
-    make_fresh(state);
-    enter(state, b"A");
+fn limits(rt: &impl Print, state: &mut State) {
+    title(rt, "limits");
+    lnk100_reset(state);
+    lnk100_force(state, b"A");
     define(state, 0, 131071);
     place(state, 4095, 18446744073709551615, 2);
     set(state, 1, 4096);
@@ -459,24 +388,24 @@ fn limits(rt: &impl Print, state: &mut [u64; STATE_CELLS]) {
 }
 
 // One word, and the next address elsewhere.
-fn alone(rt: &impl Print, state: &mut [u64; STATE_CELLS], address: usize, next: u64) {
-    make_fresh(state);
+fn alone(rt: &impl Print, state: &mut State, address: usize, next: u64) {
+    lnk100_reset(state);
     place(state, address, 7, 1);
     set(state, 1, next);
     memory(rt, state);
     end(rt, state, 16);
 }
 
-fn highs(rt: &impl Print, state: &mut [u64; STATE_CELLS]) {
-    title(rt, b"a word alone: at 0, 7, 8 and 4,095");
+fn highs(rt: &impl Print, state: &mut State) {
+    title(rt, "a word alone: at 0, 7, 8 and 4,095");
     alone(rt, state, 0, 4096);
     alone(rt, state, 7, 1);
     alone(rt, state, 8, 8);
     alone(rt, state, 4095, 0);
 }
 
-fn never_reset(rt: &impl Print, state: &mut [u64; STATE_CELLS]) {
-    title(rt, b"never reset");
+fn never_reset(rt: &impl Print, state: &mut State) {
+    title(rt, "never reset");
     force(rt, state, b"NEW");
     force(rt, state, b"?");
     base(rt, state, 7);
@@ -490,7 +419,7 @@ fn never_reset(rt: &impl Print, state: &mut [u64; STATE_CELLS]) {
 }
 
 // A sound state with one cell changed: every call on it, then RESET.
-fn damaged(rt: &impl Print, label: &[u8], at: usize, value: u64) {
+fn damaged(rt: &impl Print, label: &str, at: usize, value: u64) {
     let mut state = [0u64; STATE_CELLS];
     prepare(&mut state);
     set(&mut state, at, value);
@@ -500,30 +429,30 @@ fn damaged(rt: &impl Print, label: &[u8], at: usize, value: u64) {
 }
 
 fn each_clause(rt: &impl Print) {
-    damaged(rt, b"sound: the spare cell as it was", 3, 0);
-    damaged(rt, b"count over 256", 0, 257);
-    damaged(rt, b"count of one more than the names", 0, 4);
-    damaged(rt, b"count of one less than the names", 0, 2);
-    damaged(rt, b"next address over 4,096", 1, 4097);
-    damaged(rt, b"broken and frozen, or no mark at all", 2, 3);
-    damaged(rt, b"spare cell", 3, 1);
-    damaged(rt, b"no name", 4, 0);
-    damaged(rt, b"name in small letters", 4, 0x6d61_696e_0000);
-    damaged(rt, b"name that begins with a digit", 4, 0x3141_0000_0000);
-    damaged(rt, b"name with a gap", 4, 0x4d00_494e_0000);
-    damaged(rt, b"name of seven characters", 4, 0x4d_4d41_494e_3030);
-    damaged(rt, b"a name twice", 5, 0x4d41_494e_0000);
-    damaged(rt, b"undefined value not 0", 261, 5);
-    damaged(rt, b"value over 65,535", 260, 131072);
-    damaged(rt, b"name of no symbol", 7, 0x5300_0000_0000);
-    damaged(rt, b"last name of no symbol", 259, 1);
-    damaged(rt, b"value of no symbol", 263, 65536);
-    damaged(rt, b"last value of no symbol", 515, 1);
-    damaged(rt, b"text of an unplaced word", 518, 1);
-    damaged(rt, b"last text of an unplaced word", 4611, 1);
-    damaged(rt, b"reference to no symbol", 4617, 5);
-    damaged(rt, b"last word's reference to no symbol", 8707, 258);
-    damaged(rt, b"a placed word unplaced, its text left", 4612, 0);
+    damaged(rt, "sound: the spare cell as it was", 3, 0);
+    damaged(rt, "count over 256", 0, 257);
+    damaged(rt, "count of one more than the names", 0, 4);
+    damaged(rt, "count of one less than the names", 0, 2);
+    damaged(rt, "next address over 4,096", 1, 4097);
+    damaged(rt, "broken and frozen, or no mark at all", 2, 3);
+    damaged(rt, "spare cell", 3, 1);
+    damaged(rt, "no name", 4, 0);
+    damaged(rt, "name in small letters", 4, 0x6d61_696e_0000);
+    damaged(rt, "name that begins with a digit", 4, 0x3141_0000_0000);
+    damaged(rt, "name with a gap", 4, 0x4d00_494e_0000);
+    damaged(rt, "name of seven characters", 4, 0x4d_4d41_494e_3030);
+    damaged(rt, "a name twice", 5, 0x4d41_494e_0000);
+    damaged(rt, "undefined value not 0", 261, 5);
+    damaged(rt, "value over 65,535", 260, 131072);
+    damaged(rt, "name of no symbol", 7, 0x5300_0000_0000);
+    damaged(rt, "last name of no symbol", 259, 1);
+    damaged(rt, "value of no symbol", 263, 65536);
+    damaged(rt, "last value of no symbol", 515, 1);
+    damaged(rt, "text of an unplaced word", 518, 1);
+    damaged(rt, "last text of an unplaced word", 4611, 1);
+    damaged(rt, "reference to no symbol", 4617, 5);
+    damaged(rt, "last word's reference to no symbol", 8707, 258);
+    damaged(rt, "a placed word unplaced, its text left", 4612, 0);
 }
 
 // A sound state in which SQ has another name: how that is listed, then every call.
@@ -538,7 +467,7 @@ fn renamed(rt: &impl Print, name: u64) {
 
 // Request 4/14: what soundness takes for a name.
 fn stored_names(rt: &impl Print) {
-    title(rt, b"stored: A$B, IO.1, A....., A$, Z., A$B.C1, A$$$$$");
+    title(rt, "stored: A$B, IO.1, A....., A$, Z., A$B.C1, A$$$$$");
     renamed(rt, 0x4124_4200_0000);
     renamed(rt, 0x494f_2e31_0000);
     renamed(rt, 0x412e_2e2e_2e2e);
@@ -546,65 +475,42 @@ fn stored_names(rt: &impl Print) {
     renamed(rt, 0x5a2e_0000_0000);
     renamed(rt, 0x4124_422e_4331);
     renamed(rt, 0x4124_2424_2424);
-    damaged(rt, b"stored: $A", 5, 0x2441_0000_0000);
-    damaged(rt, b"stored: .A", 5, 0x2e41_0000_0000);
-    damaged(rt, b"stored: A$B.C1D", 5, 0x41_2442_2e43_3144);
-    damaged(rt, b"stored: A, 0, dollar", 5, 0x4100_2400_0000);
-    damaged(rt, b"stored: A, 0, dot", 5, 0x4100_2e00_0000);
-    damaged(rt, b"stored: A#B", 5, 0x4123_4200_0000);
-    damaged(rt, b"stored: AB%", 5, 0x4142_2500_0000);
-    damaged(rt, b"stored: ABC-E", 5, 0x4142_432d_4500);
-    damaged(rt, b"stored: ABCDE/", 5, 0x4142_4344_452f);
+    damaged(rt, "stored: $A", 5, 0x2441_0000_0000);
+    damaged(rt, "stored: .A", 5, 0x2e41_0000_0000);
+    damaged(rt, "stored: A$B.C1D", 5, 0x41_2442_2e43_3144);
+    damaged(rt, "stored: A, 0, dollar", 5, 0x4100_2400_0000);
+    damaged(rt, "stored: A, 0, dot", 5, 0x4100_2e00_0000);
+    damaged(rt, "stored: A#B", 5, 0x4123_4200_0000);
+    damaged(rt, "stored: AB%", 5, 0x4142_2500_0000);
+    damaged(rt, "stored: ABC-E", 5, 0x4142_432d_4500);
+    damaged(rt, "stored: ABCDE/", 5, 0x4142_4344_452f);
 }
 
-fn call_in_front(which: u64, cells: &mut [u64], size: usize, out: &mut [u8]) -> u64 {
-    if cells.len() < size {
-        return call(which, cells, out);
+// Each call on so many cells of one value.
+fn lend(rt: &impl Print, size: usize, cell: u64) {
+    let _ = print!(rt; "cells {size} of {cell}:");
+    for call in &CALLS {
+        let mut cells = [cell; STATE_CELLS + 1];
+        let mut out = UNTOUCHED;
+        let lent = &mut cells[..size.min(STATE_CELLS + 1)];
+        numbers(rt, &[call.number(lent, &mut out)]);
+        tell_touched(rt, cells.iter().all(|c| *c == cell), &out);
     }
-    call(which, &mut cells[..size], out)
-}
-
-// A call on so many cells of one value.
-fn lend(rt: &impl Print, which: u64, size: usize, cell: u64) {
-    let mut cells = [cell; 8709];
-    let mut out = [7u8; 64];
-    number(rt, call_in_front(which, &mut cells, size, &mut out));
-    if !all_are(&cells, cell) {
-        word(rt, b" changed");
-    }
-    if !all_seven(&out) {
-        word(rt, b" written");
-    }
-}
-
-fn lend_to_all(rt: &impl Print, size: usize, cell: u64) {
-    word(rt, b"cells");
-    number(rt, size as u64);
-    word(rt, b" of");
-    number(rt, cell);
-    word(rt, b":");
-    lend(rt, 0, size, cell);
-    lend(rt, 1, size, cell);
-    lend(rt, 2, size, cell);
-    lend(rt, 3, size, cell);
-    lend(rt, 4, size, cell);
-    lend(rt, 5, size, cell);
-    lend(rt, 6, size, cell);
     end_line(rt);
 }
 
 fn lengths(rt: &impl Print) {
     title(
         rt,
-        b"lengths: FORCE, BASE, MEMORY, SYMBOLS, UNDEFINED, END, RESET",
+        "lengths: FORCE, BASE, MEMORY, SYMBOLS, UNDEFINED, END, RESET",
     );
-    lend_to_all(rt, 0, 0);
-    lend_to_all(rt, 8707, 0);
-    lend_to_all(rt, 8707, 5);
-    lend_to_all(rt, 8708, 0);
-    lend_to_all(rt, 8708, 5);
-    lend_to_all(rt, 8709, 0);
-    lend_to_all(rt, 8709, 5);
+    lend(rt, 0, 0);
+    lend(rt, 8707, 0);
+    lend(rt, 8707, 5);
+    lend(rt, 8708, 0);
+    lend(rt, 8708, 5);
+    lend(rt, 8709, 0);
+    lend(rt, 8709, 5);
 }
 
 fn main(rt: HostRuntime) {

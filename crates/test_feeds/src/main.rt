@@ -24,65 +24,37 @@
 // Feed memory of wrong lengths and damaged feed memory are not in the script: damage.rt has them.
 #![tactic(auto)]
 
-mod calls;
+mod bench;
+mod cuts;
 mod damage;
-mod files;
-mod lend;
 mod memory;
-mod obey;
-mod others;
-mod pieces;
 mod print;
 
+use bench::Bench;
 use damage::damage;
-use linker::STATE_CELLS;
-use memory::MORE_FEED;
-use obey::play_line;
-use pieces::TEXT;
-use std::io::Print;
-use test_script::{between, read_script};
+use test_script::{Script, read_script};
 
-fn meant(b: u8) -> u8 {
-    match b {
-        b'^' => 13,
-        b'~' => 9,
-        _ => b,
+fn meant(byte: u8) -> u8 {
+    match byte {
+        b'^' => b'\r',
+        b'~' => b'\t',
+        _ => byte,
     }
-}
-
-fn put_bytes_meant(read: &mut [u8; 65536]) {
-    let mut i = 0;
-    while i < 65536 {
-        read[i] = meant(read[i]);
-        i += 1;
-    }
-}
-
-// The turns bound the loop; a script has fewer lines.
-fn play(rt: &impl Print, script: &[u8]) {
-    let mut text = [0u8; TEXT];
-    let mut feed = [0u64; MORE_FEED];
-    let mut state = [0u64; STATE_CELLS];
-    let mut at: usize = 0;
-    let mut turns: u64 = 65536;
-    while turns > 0 {
-        if at >= script.len() {
-            return;
-        }
-        at = play_line(rt, script, at, &mut text, &mut feed, &mut state);
-        turns -= 1;
-    }
-}
-
-// The first bytes that were read are the script.
-fn play_front(rt: &impl Print, read: &[u8; 65536], size: usize) {
-    play(rt, between(read, 0, size));
 }
 
 fn main(rt: HostRuntime) {
     let mut read = [0u8; 65536];
     let size = read_script(&mut rt.stdin(), &mut read);
-    put_bytes_meant(&mut read);
-    play_front(&rt, &read, size);
+    for byte in read.iter_mut() {
+        *byte = meant(*byte);
+    }
+    let mut script = Script::new(&read[..size]);
+    let mut bench = Bench::new();
+    for _ in 0..size {
+        let Some(line) = script.next() else {
+            break;
+        };
+        bench.obey(&rt, line, &mut script);
+    }
     damage(&rt);
 }

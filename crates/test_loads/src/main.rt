@@ -16,35 +16,23 @@
 //   D n          puts 7 into cell n of the state
 #![tactic(auto)]
 
-mod calls;
+mod bench;
 mod leaving;
 mod listing;
 mod loads;
-mod obey;
-mod print;
 
-use linker::STATE_CELLS;
-use obey::play_line;
-use std::io::Print;
-use test_script::{between, read_script};
-
-// The turns bound the loop; a script has fewer lines.
-fn play(rt: &impl Print, script: &[u8]) {
-    let mut state = [0u64; STATE_CELLS];
-    let mut kept = [0u64; STATE_CELLS];
-    let mut at: usize = 0;
-    let mut turns: u64 = 65536;
-    while turns > 0 {
-        if at >= script.len() {
-            return;
-        }
-        at = play_line(rt, script, at, &mut state, &mut kept);
-        turns -= 1;
-    }
-}
+use bench::Bench;
+use test_script::{Script, read_script};
 
 fn main(rt: HostRuntime) {
     let mut text = [0u8; 65536];
     let size = read_script(&mut rt.stdin(), &mut text);
-    play(&rt, between(&text, 0, size));
+    let mut script = Script::new(&text[..size]);
+    let mut bench = Bench::new();
+    for _ in 0..size {
+        let Some(line) = script.next() else {
+            break;
+        };
+        bench.obey(&rt, line, &mut script);
+    }
 }

@@ -1,5 +1,0 @@
-use Rattle.std.proofs.Common.{◌-◌}
-use Rattle.dialogue.proofs.listing.put_symbols.Given as goal
-
-abbrev pub decreases-loop-index : goal.decreases-loop-index
-decreases-loop-index l = 256 - l.index

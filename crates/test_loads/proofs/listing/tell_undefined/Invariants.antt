@@ -1,5 +1,0 @@
-use Rattle.std.proofs.Common.{◌-◌}
-use Rattle.test_loads.proofs.listing.tell_undefined.Given as goal
-
-abbrev pub decreases-loop-index : goal.decreases-loop-index
-decreases-loop-index g l = 256 - l.index
