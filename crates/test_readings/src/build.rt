@@ -1,140 +1,92 @@
 // A file put together of the lines of the script. What does not fit into it is left out.
-ghost use Rattle.std.specs.Prelude.{◌<◌, ◌≤◌, length};
+ghost use Rattle.std.specs.Prelude.{◌<◌, ◌≤◌};
 
-use test_script::{between, byte, next_line, number_of};
+use test_script::{Script, number_of};
 
-fn put_byte(out: &mut [u8; 65536], at: usize, b: u8) -> usize {
-    if at < 65536 {
-        out[at] = b;
-        return at + 1;
-    }
-    at
+const ROOM: usize = 65536;
+
+#[derive(Drop)]
+pub struct Built {
+    bytes: [u8; ROOM],
+    size: usize,
+    ghost within: { size ≤ 65536 },
 }
 
-// The text as it stands.
-pub fn put(out: &mut [u8; 65536], at: usize, text: &[u8]) -> usize {
-    let mut end = at;
-    let mut i = 0;
-    while i < text.len() {
-        end = put_byte(out, end, text[i]);
-        i += 1;
-    }
-    end
-}
-
-fn hex_digit(b: u8) -> u8 {
-    if b < 58 { b % 16 } else { b % 16 + 9 }
-}
-
-// The byte that a text starts with, by its escape or as it stands.
-fn first_byte(text: &[u8]) -> u8 {
-    if byte(text, 0) != b'\\' {
-        return byte(text, 0);
-    }
-    match byte(text, 1) {
-        b'n' => 10,
-        b'r' => 13,
-        _ => hex_digit(byte(text, 2)) % 16 * 16 + hex_digit(byte(text, 3)) % 16,
-    }
-}
-
-// How long that byte is in the text.
-fn first_length(text: &[u8]) -> usize
-    ensures { 0 < result }
+fn hex(digit: u8) -> u8
+    ensures { result < 16 }
 {
-    if byte(text, 0) != b'\\' {
-        return 1;
+    if digit < b':' {
+        digit % 16
+    } else {
+        (digit % 16 + 9) % 16
     }
-    if byte(text, 1) == b'x' {
-        return 4;
-    }
-    2
 }
 
-// i plus n, at most `most`.
-fn ahead(i: usize, n: usize, most: usize) -> usize
-    requires i_lt_most { i < most }
-    requires n_nonzero { 0 < n }
-    ensures lower_bound { i < result }
-    ensures upper_bound { result ≤ most }
-{
-    if n < most - i { i + n } else { most }
-}
-
-// The text with its escapes turned into bytes.
-pub fn put_escaped(out: &mut [u8; 65536], at: usize, text: &[u8]) -> usize {
-    let mut end = at;
-    let mut i = 0;
-    while i < text.len() {
-        let rest = between(text, i, text.len());
-        end = put_byte(out, end, first_byte(rest));
-        i = ahead(i, first_length(rest), text.len());
+// The byte that a text starts with, by its escape \n, \r or \xhh or as it stands, and what stands behind it.
+fn first_byte(text: &[u8]) -> Option<(u8, &[u8])> {
+    if let Some(rest) = text.strip_prefix(b"\\n") {
+        return Some((b'\n', rest));
     }
-    end
-}
-
-fn put_times(out: &mut [u8; 65536], at: usize, text: &[u8], times: u64) -> usize {
-    let mut end = at;
-    let mut k: u64 = 0;
-    while k < times {
-        end = put_escaped(out, end, text);
-        k += 1;
+    if let Some(rest) = text.strip_prefix(b"\\r") {
+        return Some((b'\r', rest));
     }
-    end
+    if text.starts_with(b"\\x") && text.len() >= 4 {
+        return Some((hex(text[2]) * 16 + hex(text[3]), &text[4..]));
+    }
+    let (first, rest) = text.split_first()?;
+    Some((*first, rest))
 }
 
-// Where the first space stands; the end where there is none.
-fn first_space(text: &[u8]) -> usize
-    ensures { result ≤ length text.now }
-{
-    let mut i = 0;
-    while i < text.len() {
-        if text[i] == b' ' {
-            return i;
+impl Built {
+    pub fn new() -> Self {
+        Built {
+            bytes: [0; ROOM],
+            size: 0,
         }
-        i += 1;
     }
-    i
-}
 
-// What stands behind the byte at `at`, without the line's end.
-fn behind(line: &[u8], at: usize) -> &[u8] {
-    if line.len() < 2 {
-        return line;
+    pub fn text(&self) -> &[u8] {
+        &self.bytes[..self.size]
     }
-    if at >= line.len() - 1 {
-        return line;
-    }
-    between(line, at + 1, line.len() - 1)
-}
 
-// A line of the script, with its end; or of `\n text` the text n times.
-fn put_line(out: &mut [u8; 65536], at: usize, line: &[u8]) -> usize {
-    if byte(line, 0) != b'\\' {
-        return put(out, at, line);
+    // The text as it stands.
+    pub fn put(&mut self, text: &[u8]) {
+        let n = text.len().min(ROOM - self.size);
+        let end = self.size + n;
+        self.bytes[self.size..end].copy_from_slice(&text[..n]);
+        self.size = end;
     }
-    let gap = first_space(line);
-    put_times(out, at, behind(line, gap), number_of(between(line, 1, gap)))
-}
 
-// The turns bound the loop; a script has fewer lines.
-pub fn put_lines(out: &mut [u8; 65536], lines: &[u8]) -> usize {
-    let mut end: usize = 0;
-    let mut at: usize = 0;
-    let mut turns: u64 = 65536;
-    while turns > 0 {
-        if at >= lines.len() {
-            return end;
+    // The text with its escapes turned into bytes.
+    pub fn put_escaped(&mut self, text: &[u8]) {
+        let mut rest = text;
+        for _ in 0..text.len() {
+            let Some((byte, behind)) = first_byte(rest) else {
+                return;
+            };
+            self.put(&[byte]);
+            rest = behind;
         }
-        let next = next_line(lines, at);
-        end = put_line(out, end, between(lines, at, next));
-        at = next;
-        turns -= 1;
     }
-    end
-}
 
-// An array lent as a slice has its length, whatever was put into it.
-pub fn front(out: &[u8; 65536], size: usize) -> &[u8] {
-    between(out, 0, size)
+    // A line of the script, with its end; or of `\n text` the text n times.
+    fn put_line(&mut self, line: &[u8]) {
+        let Some(repeated) = line.strip_prefix(b"\\") else {
+            self.put(line);
+            return;
+        };
+        let spec = repeated.strip_suffix(b"\n").unwrap_or(repeated);
+        let gap = spec.iter().position(|byte| *byte == b' ');
+        let gap = gap.unwrap_or(spec.len());
+        let text = spec.get(gap + 1..).unwrap_or(b"");
+        for _ in 0..number_of(&spec[..gap]) {
+            self.put_escaped(text);
+        }
+    }
+
+    pub fn put_lines(&mut self, lines: &[u8]) {
+        for line in Script::new(lines) {
+            self.put_line(line);
+        }
+    }
 }

@@ -16,24 +16,16 @@ mod cases;
 mod show;
 
 use cases::play_line;
-use std::io::Print;
-use test_script::{between, read_script};
-
-// The turns bound the loop; a script has fewer lines.
-fn play(rt: &impl Print, script: &[u8]) {
-    let mut at: usize = 0;
-    let mut turns: u64 = 65536;
-    while turns > 0 {
-        if at >= script.len() {
-            return;
-        }
-        at = play_line(rt, script, at);
-        turns -= 1;
-    }
-}
+use test_script::{Script, read_script};
 
 fn main(rt: HostRuntime) {
     let mut text = [0u8; 65536];
     let size = read_script(&mut rt.stdin(), &mut text);
-    play(&rt, between(&text, 0, size));
+    let mut script = Script::new(&text[..size]);
+    for _ in 0..size {
+        let Some(line) = script.next() else {
+            break;
+        };
+        play_line(&rt, line, &mut script);
+    }
 }

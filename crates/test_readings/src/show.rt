@@ -1,132 +1,51 @@
 // Printing what reading a file came to. Numbers of the file stand in octal, lines, columns and counts in decimal.
-ghost use Rattle.std.specs.Prelude.{◌<◌, ◌≤◌, length};
+ghost use Rattle.std.specs.Prelude.{◌≤◌, length};
 ghost use Rattle.rules.specs.Limits.{longest_file};
 
 use reading::read_file;
 use rules::limits::LONGEST_FILE;
-use rules::line::{Entry, Relocation};
+use rules::line::{CodeWord, Entry, Relocation};
 use rules::reading::{Part, Reading};
 use std::io::Print;
 use tables::cells::{PART_ROOM, ROW_ROOM};
 use tables::iter::Parts;
 use tables::parts::part_of;
 use tables::rows::{RowKind, Tables};
-
-// What cannot be written is missed where the output is held to the stored one.
-pub fn say(rt: &impl Print, text: &[u8]) {
-    let _ = rt.write_all(text);
-}
-
-fn decimal(rt: &impl Print, n: u64) {
-    let _ = rt.print(n);
-}
-
-fn digit(n: u64, unit: u64) -> u8
-    requires { 0 < unit }
-{
-    48 + (n / unit % 8) as u8
-}
-
-// Six octal digits.
-fn octal(rt: &impl Print, n: u64) {
-    let digits = [
-        digit(n, 32768),
-        digit(n, 4096),
-        digit(n, 512),
-        digit(n, 64),
-        digit(n, 8),
-        digit(n, 1),
-    ];
-    say(rt, &digits);
-}
-
-fn byte(packed: u64, unit: u64) -> u8
-    requires { 0 < unit }
-{
-    (packed / unit % 256) as u8
-}
-
-// A character of a name; a shorter name ends in zeros.
-fn letter(rt: &impl Print, packed: u64, unit: u64)
-    requires { 0 < unit }
-{
-    let b = byte(packed, unit);
-    if b != 0 {
-        say(rt, &[b]);
-    }
-}
-
-fn name(rt: &impl Print, packed: u64) {
-    letter(rt, packed, 1099511627776);
-    letter(rt, packed, 4294967296);
-    letter(rt, packed, 16777216);
-    letter(rt, packed, 65536);
-    letter(rt, packed, 256);
-    letter(rt, packed, 1);
-}
+use test_script::{Name, say};
 
 fn show_entry(rt: &impl Print, e: Entry) {
-    say(rt, b"  entry ");
-    name(rt, e.name);
-    say(rt, b" ");
-    octal(rt, e.value as u64);
-    if e.relocated {
-        say(rt, b" relocated, parameters ");
-    } else {
-        say(rt, b" absolute, parameters ");
-    }
-    octal(rt, e.parameters as u64);
+    let name = Name(e.name);
+    let value = e.value;
+    let kind = if e.relocated { "relocated" } else { "absolute" };
+    let parameters = e.parameters;
+    let _ = println!(rt; "  entry {name} {value:06o} {kind}, parameters {parameters:06o}");
 }
 
-fn show_relocation(rt: &impl Print, relocation: Relocation) {
-    match relocation {
-        Relocation::Plain => say(rt, b" plain"),
-        Relocation::External(k) => {
-            say(rt, b" external ");
-            octal(rt, k as u64);
-        }
-        Relocation::Unread(kind) => {
-            say(rt, b" type ");
-            octal(rt, kind as u64);
-        }
-    }
-}
-
-fn show_word(rt: &impl Print, address: u64, text: u64) {
-    say(rt, b"  word ");
-    octal(rt, address);
-    say(rt, b":  ");
-    octal(rt, text / 281474976710656);
-    say(rt, b" ");
-    octal(rt, text / 4294967296 % 65536);
-    say(rt, b" ");
-    octal(rt, text / 65536 % 65536);
-    say(rt, b" ");
-    octal(rt, text % 65536);
-}
-
-fn show_block(rt: &impl Print, offset: u64, count: u64) {
-    say(rt, b"  code at ");
-    octal(rt, offset);
-    say(rt, b", count ");
-    octal(rt, count);
+fn show_word(rt: &impl Print, address: u32, word: CodeWord) {
+    let a = word.text >> 48;
+    let b = word.text >> 32 & 0xffff;
+    let c = word.text >> 16 & 0xffff;
+    let d = word.text & 0xffff;
+    let _ = print!(rt; "  word {address:06o}:  {a:06o} {b:06o} {c:06o} {d:06o}");
+    let _ = match word.relocation {
+        Relocation::Plain => println!(rt; " plain"),
+        Relocation::External(k) => println!(rt; " external {k:06o}"),
+        Relocation::Unread(kind) => println!(rt; " type {kind:06o}"),
+    };
 }
 
 fn show_part(rt: &impl Print, part: Part) {
     match part {
         Part::EntryPart(e) => show_entry(rt, e),
         Part::ExternalPart(packed) => {
-            say(rt, b"  external ");
-            name(rt, packed);
+            let name = Name(packed);
+            let _ = println!(rt; "  external {name}");
         }
-        Part::BlockPart { offset, count } => show_block(rt, offset as u64, count as u64),
-        Part::WordPart { address, word } => {
-            show_word(rt, address as u64, word.text);
-            let relocation = word.relocation;
-            show_relocation(rt, relocation);
+        Part::BlockPart { offset, count } => {
+            let _ = println!(rt; "  code at {offset:06o}, count {count:06o}");
         }
+        Part::WordPart { address, word } => show_word(rt, address, word),
     }
-    say(rt, b"\n");
 }
 
 // How many of n elements are printed: all, or none where there are more than `most`.
@@ -136,61 +55,32 @@ fn shown(n: usize, most: usize) -> usize
     if n <= most { n } else { 0 }
 }
 
-// The first n parts of a table.
-fn show_parts(rt: &impl Print, cells: &[u64], n: usize) {
-    for part in Parts::of(cells).take(n) {
-        show_part(rt, part_of(part.head, part.body));
-    }
-}
-
-fn show_row(rt: &impl Print, tables: Tables, i: usize)
-    requires { i ≤ 8 }
-{
-    match tables.kind(i) {
-        Some(RowKind::Free) => say(rt, b"  module, line "),
-        Some(RowKind::Member) => say(rt, b"  library module, line "),
-        Some(RowKind::Section) => say(rt, b"  section, line "),
-        None => say(rt, b"  no row, line "),
-    }
-    decimal(rt, tables.line(i));
-    say(rt, b", from ");
-    decimal(rt, tables.start(i) as u64);
-    say(rt, b" to ");
-    decimal(rt, tables.end(i) as u64);
-    say(rt, b"\n");
-}
-
 // The first n rows.
 fn show_rows(rt: &impl Print, tables: Tables, n: usize)
     requires { n ≤ 8 }
 {
     for i in 0..n {
-        show_row(rt, tables, i);
+        let kind = match tables.kind(i) {
+            Some(RowKind::Free) => "module",
+            Some(RowKind::Member) => "library module",
+            Some(RowKind::Section) => "section",
+            None => "no row",
+        };
+        let line = tables.line(i);
+        let start = tables.start(i);
+        let end = tables.end(i);
+        let _ = println!(rt; "  {kind}, line {line}, from {start} to {end}");
     }
-}
-
-fn show_stop(rt: &impl Print, number: u64, line: u64, column: u64) {
-    say(rt, b": stopped by ");
-    decimal(rt, number);
-    say(rt, b" at line ");
-    decimal(rt, line);
-    say(rt, b", column ");
-    decimal(rt, column);
 }
 
 fn show_reading(rt: &impl Print, reading: Reading) {
-    match reading {
-        Ok(_) => say(rt, b": complete"),
-        Err(stop) => show_stop(rt, stop.number, stop.line as u64, stop.column as u64),
-    }
-}
-
-fn show_counts(rt: &impl Print, parts: usize, rows: usize) {
-    say(rt, b"; parts ");
-    decimal(rt, parts as u64);
-    say(rt, b", rows ");
-    decimal(rt, rows as u64);
-    say(rt, b"\n");
+    let _ = match reading {
+        Ok(()) => print!(rt; ": complete"),
+        Err(stop) => print!(rt;
+            ": stopped by {} at line {}, column {}",
+            stop.number, stop.line, stop.column
+        ),
+    };
 }
 
 // Reads the file into these tables and prints what it came to.
@@ -198,10 +88,11 @@ fn show_read(rt: &impl Print, file: &[u8], parts: &mut [u64; PART_ROOM], rows: &
     requires { length file.now ≤ longest_file }
 {
     let r = read_file(file, parts, rows);
-    let reading = r.reading;
-    show_reading(rt, reading);
-    show_counts(rt, r.parts, r.rows);
-    show_parts(rt, parts, shown(r.parts, 30));
+    show_reading(rt, r.reading);
+    let _ = println!(rt; "; parts {}, rows {}", r.parts, r.rows);
+    for part in Parts::of(parts).take(shown(r.parts, 30)) {
+        show_part(rt, part_of(part.head, part.body));
+    }
     show_rows(rt, Tables { parts, rows }, shown(r.rows, 8));
 }
 
