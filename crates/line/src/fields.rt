@@ -72,7 +72,7 @@ fn start_of(line: &[u8], i: usize) -> Result<usize, Fault>
     requires { i ≤ length line.now }
     ensures { Starts i line.now result }
 {
-    let start = field_start(line, i, line.len());
+    let start = field_start(line, i);
     if start == line.len() {
         return Err(fault_at(FaultKind::FieldCount, line.len()));
     }
@@ -84,7 +84,7 @@ pub fn no_more(line: &[u8], i: usize) -> Result<(), Fault>
     requires { i ≤ length line.now }
     ensures { Ends i line.now result }
 {
-    let start = field_start(line, i, line.len());
+    let start = field_start(line, i);
     if start < line.len() {
         return Err(fault_at(FaultKind::FieldCount, start));
     }
@@ -98,7 +98,7 @@ pub fn field_at(line: &[u8], i: usize, kind: Kind) -> Result<FieldFrom<u16>, Fau
     ensures { Reads (value_as kind (next_text i line.now)) kind i line.now result }
 {
     let start = start_of(line, i)?;
-    let field = field_from(line, start, line.len());
+    let field = field_from(line, start);
     match read_field(field, kind) {
         Ok(value) => Ok(FieldFrom {
             value,
@@ -115,7 +115,7 @@ pub fn name_at(line: &[u8], i: usize) -> Result<FieldFrom<u64>, Fault>
     ensures { Reads (λ name. name) NameKind i line.now result }
 {
     let start = start_of(line, i)?;
-    let field = field_from(line, start, line.len());
+    let field = field_from(line, start);
     match read_name(field) {
         Some(value) => Ok(FieldFrom {
             value,
@@ -140,7 +140,7 @@ pub fn bounded_at(
     ensures { Reads (λ number. number) (NumberKind low high outside) i line.now result }
 {
     let start = start_of(line, i)?;
-    let field = field_number(line, start, line.len());
+    let field = field_number(line, start);
     match within(field.number, low, high, outside) {
         Ok(value) => Ok(FieldFrom {
             value,

@@ -65,7 +65,7 @@ pub fn header_line(line: &[u8], start: usize) -> Result<Header, Fault>
     ensures { said_as Head result ≡ shape_said (shape_for AnyHeader (fields_of line.now)) (fault BadMarker (start + 1)) (length line.now + 1) (fields_of line.now) }
 {
     let unknown = fault_at(FaultKind::BadMarker, start);
-    let Some(code) = read_number(next_field(line, start, line.len())) else {
+    let Some(code) = read_number(next_field(line, start)) else {
         return Err(unknown);
     };
     block_line(line, code, unknown)

@@ -67,7 +67,7 @@ fn shape_line(line: &[u8], start: usize, expected: Expected) -> Result<LineAnswe
 fn fields_say(line: &[u8], expected: Expected) -> Result<LineAnswer, Fault>
     ensures { said_as (λ answer. answer) result ≡ line_of expected (length line.now + 1) (fields_of line.now) }
 {
-    let start = field_start(line, 0, line.len());
+    let start = field_start(line, 0);
     if start == line.len() {
         return Ok(LineAnswer::Blank);
     }

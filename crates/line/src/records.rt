@@ -93,7 +93,7 @@ pub fn code_line(line: &[u8], start: usize) -> Result<CodeWord, Fault>
     if line[start] != b'*' {
         return plain_line(line);
     }
-    if is_star(next_field(line, start, line.len())) {
+    if is_star(next_field(line, start)) {
         return linked_line(line);
     }
     plain_line(line)

@@ -7,13 +7,13 @@ use native.Mathlib.Omega.{arith}
 use mathlib.Core.Bool.{Bool, true, false, cond, ◌&&◌}
 use mathlib.Core.List.{List, [], ◌∷◌}
 use mathlib.Core.Path.{◌≡◌, refl, sym, ap, ap₂, ◌∙◌}
-use lib.ListN.{length, take, drop, get_or, length-take, length-drop, drop_of_length-le}
+use lib.ListN.{length, take, drop, get_or, length-take, length-drop}
 use lib.Seq.{drop-cons, take-length, take-take, drop-drop, take-nil, get_or-take, get_or-drop}
 use lib.Dec.{leb}
 use borrow.Author.Tests.{le-leb, lt-leb}
 use Rattle.rules.specs.Text.{between, all}
 use Rattle.rules.proofs.TestLaws.{all_first, all_rest, all_at}
-use Rattle.text.specs.Scan.{part, run, past, Found}
+use Rattle.text.specs.Scan.{part, run, past, InFile, Found}
 
 -- ---- parts
 
@@ -169,47 +169,39 @@ module _ (p q : ℕ → Bool) (h : (b : ℕ) → q b ≡ true → p b ≡ true) 
       ap (λ (j : ℕ). past p j e l) (sym k)
       ∙ over (s - i) i e l (omega arith) m (ap (λ (j : ℕ). all q (part i j l)) k ∙ a)
 
--- what the loop of a scan keeps at the position i that it has come to
-pub record Scanned (p : ℕ → Bool) (at e : ℕ) (l : List ℕ) (i : ℕ) : Type 0 where
-  pub from : at ≤ i
-  pub to : i ≤ e
-  pub size : e ≤ length l
-  pub same : past p i e l ≡ past p at e l
+-- the first n bytes pass, and the one behind them does not
+module _ (p : ℕ → Bool) where
+  run_is : (l : List ℕ) (n : ℕ) → n ≤ length l → ((k : ℕ) → k < n → p (get_or l k 0) ≡ true) → (n < length l → p (get_or l n 0) ≡ false) → run p l ≡ n
+  unfolding run
+  run_is [] n h b s = omega arith
+  run_is (x ∷ xs) zero h b s = run_no p x xs (s (omega arith))
+  run_is (x ∷ xs) (suc n) h b s = run_yes p x xs (b 0 (omega arith)) ∙ ap suc (run_is xs n (omega arith) (λ k g. b (suc k) (omega arith)) (λ g. s (omega arith)))
 
-pub scan_start : (p : ℕ → Bool) (at e : ℕ) (l : List ℕ) → at ≤ e → e ≤ length l → Scanned p at e l at
-scan_start p at e l h g = record { from = omega arith; to = h; size = g; same = refl }
-
-module _ {p : ℕ → Bool} {at e : ℕ} {l : List ℕ} {i : ℕ} (s : Scanned p at e l i) where
-  pub scan_step : i < e → p (get_or l i 0) ≡ true → Scanned p at e l (i + 1)
-  scan_step h b =
+  pub past_is :
+      (at n : ℕ) (l : List ℕ) → (at ≤ n) × (n ≤ length l) → ((k : ℕ) → at ≤ k → k < n → p (get_or l k 0) ≡ true)
+      → (n < length l → p (get_or l n 0) ≡ false) → Found at (length l) (past p at (length l) l) n
+  unfolding past
+  past_is at n l h b s =
+      let e : at + (n - at) ≡ n = omega arith in
+      let w : run p (drop at l) ≡ n - at =
+      run_is (drop at l) (n - at) (omega (arith, length-drop at l))
+      (λ k g. ap p (get_or-drop at l k 0) ∙ b (at + k) (omega arith) (omega arith))
+      (λ g. ap p (get_or-drop at l (n - at) 0 ∙ ap (λ (j : ℕ). get_or l j 0) e) ∙ s (omega (arith, length-drop at l))) in
       record {
-        from = omega arith;
-        to = omega arith;
-        size = s.size;
-        same = past_step p i e l h s.size b ∙ s.same;
+        is = omega (arith, ap (run p) (part_all at l), w);
+        least = h.0;
+        most = h.1;
       }
 
-  pub scan_stop : i < e → p (get_or l i 0) ≡ false → Found at e (past p at e l) i
-  scan_stop h b = record { is = sym (past_stop p i e l h s.size b) ∙ s.same; least = s.from; most = s.to }
-
-  pub scan_end : e ≤ i → Found at e (past p at e l) i
-  scan_end h = record { is = sym (past_end p i e l h) ∙ s.same; least = s.from; most = s.to }
+-- a position in a line
+pub in_line : (at : ℕ) (l : List ℕ) → at ≤ length l → InFile at (length l) l
+in_line at l h = record { order = h; size = omega arith }
 
 -- ---- a test of all bytes
 
-module _ (p : ℕ → Bool) (i : ℕ) (l : List ℕ) where
-  pub all_end : length l ≤ i → all p (drop i l) ≡ true
-  unfolding all
-  all_end h = rw (drop_of_length-le l h)
-
-  module _ (h : i < length l) where
-    pub all_step : p (get_or l i 0) ≡ true → all p (drop (i + 1) l) ≡ all p (drop i l)
-    unfolding all
-    all_step b = rw (drop-cons l i 0, add-one, b)
-
-    pub all_stop : p (get_or l i 0) ≡ false → all p (drop i l) ≡ false
-    unfolding all
-    all_stop b = rw (drop-cons l i 0, b)
+pub all_stop : (p : ℕ → Bool) (i : ℕ) (l : List ℕ) → i < length l → p (get_or l i 0) ≡ false → all p (drop i l) ≡ false
+unfolding all
+all_stop p i l h b = rw (drop-cons l i 0, b)
 
 -- ---- tests on a byte
 
