@@ -8,18 +8,15 @@ use lib.ListN.{length}
 use Rattle.rules.specs.Text.{Field, fields_from}
 use Rattle.rules.specs.Line.{value, read_field, text_at}
 use Rattle.rules.specs.declared.line.Kind.{Kind}
-use Rattle.text.specs.Scan.{part, InFile}
+use Rattle.text.specs.Scan.{part}
 use Rattle.text.specs.Digits.{field_text}
+use Rattle.text.proofs.ScanLaws.{in_line}
 use Rattle.text.proofs.FieldLaws.{FieldFound, field_found}
 use Rattle.line.specs.Fields.{StartsAt, FieldAs}
 
--- a line that is asked for fields from i on
-pub line_from : {i : ℕ} {l : List ℕ} → i ≤ length l → InFile i (length l) l
-line_from h = record { order = h; size = omega arith }
-
 module _ {i s : ℕ} {l : List ℕ} (h : i ≤ length l) (b : StartsAt i l s) where
   pub found : FieldFound i (length l) s l (field_text s (length l) l)
-  found = field_found i (length l) s l (line_from h) b.found b.inside _ refl
+  found = field_found i (length l) s l (in_line _ _ h) b.found b.inside _ refl
 
   module _ {k : Kind} {t : List ℕ} (is : t ≡ field_text s (length l) l) where
     pub field_is : {v e : ℕ} → value v ≡ read_field k t → e ≡ s + length t → FieldAs k i l v e
