@@ -9,10 +9,9 @@ use Rattle.rules.specs.Text.{fields_of, legal_front}
 use Rattle.rules.specs.Line.{Shape, read_as, shape_for, say_fields_over, line_of, line_over, test_bytes, line_answer, line_answer_over}
 use Rattle.rules.specs.declared.line.Expected.{Expected}
 use Rattle.rules.specs.declared.line.LineAnswer.{LineAnswer}
-use Rattle.rules.specs.declared.line.LineAnswer.TheVariants.{Blank}
 use Rattle.text.specs.Scan.{part, InFile}
 use Rattle.text.specs.FieldBounds.{field_start}
-use Rattle.text.proofs.FieldLaws.{field_found, no_field}
+use Rattle.text.proofs.FieldLaws.{field_found}
 use Rattle.text.proofs.ScanLaws.{length_part}
 use Rattle.line.specs.Fitting.{line_fields, end_column}
 
@@ -29,10 +28,6 @@ module _ (w : Expected) {at stop : ℕ} {l : List ℕ} (h : InFile at stop l) wh
   Says a = a ≡ line_of w (end_column at stop) (line_fields at stop l)
 
   module _ {s : ℕ} (e : s ≡ field_start at stop l) where
-    pub line_blank : s ≡ stop → Says Blank
-    unfolding fields_of line_over say_fields_over
-    line_blank g = rw (no_field at stop s l h e g 1)
-
     -- where there is a field, a shape tells what the line says
     pub line_shaped : s < stop → {x : Shape} {a : LineAnswer} → a ≡ read_as x (end_column at stop) (line_fields at stop l) →
         shape_for w (line_fields at stop l) ≡ some x → Says a

@@ -18,11 +18,11 @@ use Rattle.rules.specs.declared.line.Kind.TheVariants.{Anything}
 use Rattle.text.specs.Scan.{part, InFile}
 use Rattle.text.specs.FieldBounds.{field_start, field_stop}
 use Rattle.text.proofs.FieldLaws.{FieldFound, field, field_found, no_field, start_least, start_most}
-use Rattle.text.proofs.ScanLaws.{part_all}
+use Rattle.text.proofs.ScanLaws.{in_line, part_all}
 use Rattle.text.specs.Digits.{field_text}
 use Rattle.line.specs.Fields.{value_as, next_text, FieldLeft, FieldAs, FieldWrong, missing, differs}
 use Rattle.line.specs.Fitting.{values_of, line_fields}
-use Rattle.line.proofs.FieldLaws.{line_from, later, this}
+use Rattle.line.proofs.FieldLaws.{later, this}
 
 -- ---- values in front of those that are fitted
 
@@ -129,7 +129,7 @@ module _ (ks : List Kind) (l : List ℕ) where
   line_told e = let n : length l - 0 ≡ length l = omega arith in rw (n, whole l) at e
 
 pub line_start : (ks : List Kind) (l : List ℕ) → Fitting ks 0 (length l) l [] ks 0
-line_start ks l = fitting_start ks 0 (length l) l (line_from (omega arith))
+line_start ks l = fitting_start ks 0 (length l) l (in_line _ _ (omega arith))
 
 module _ {ks : List Kind} {l done : List ℕ} {i : ℕ} where
   module _ {k : Kind} {rest : List Kind} (f : Fitting ks 0 (length l) l done (k ∷ rest) i) where

@@ -16,10 +16,9 @@ use Rattle.text.specs.Scan.{part, InFile}
 use Rattle.text.specs.FieldBounds.{field_start, field_stop, first}
 use Rattle.text.specs.Digits.{field_text}
 use Rattle.text.proofs.FieldLaws.{field, next_field, field_found, no_field, stop_most}
-use Rattle.text.proofs.ScanLaws.{part_nil, part_cons, part_all}
+use Rattle.text.proofs.ScanLaws.{in_line, part_nil, part_cons, part_all}
 use Rattle.line.specs.Fields.{StartsAt}
 use Rattle.line.specs.Fitting.{line_fields, shape_said}
-use Rattle.line.proofs.FieldLaws.{line_from}
 
 first_text_lem : (c : ℕ) (t : List ℕ) (others : List Field) → first_text (first (field c t) others) ≡ t
 unfolding first first_text
@@ -60,7 +59,7 @@ module _ (at stop s : ℕ) (l : List ℕ) (h : InFile at stop l) (e : s ≡ fiel
 
 pub fields_none : (l : List ℕ) {s : ℕ} → s ≡ field_start 0 (length l) l → s ≡ length l → fields_of l ≡ []
 unfolding fields_of
-fields_none l {s} e n = ap (fields_from 1) (sym (part_all 0 l)) ∙ no_field 0 (length l) s l (line_from (omega arith)) e n 1
+fields_none l {s} e n = ap (fields_from 1) (sym (part_all 0 l)) ∙ no_field 0 (length l) s l (in_line _ _ (omega arith)) e n 1
 
 module _ (l : List ℕ) (s : ℕ) (b : StartsAt 0 l s) where
   others : List Field
@@ -70,7 +69,7 @@ module _ (l : List ℕ) (s : ℕ) (b : StartsAt 0 l s) where
   fields_are : fields_of l ≡ field (s + 1) (field_text s (length l) l) ∷ others
   unfolding fields_of others
   fields_are =
-      let f = field_found 0 (length l) s l (line_from (omega arith)) b.found b.inside (field_text s (length l) l) refl in
+      let f = field_found 0 (length l) s l (in_line _ _ (omega arith)) b.found b.inside (field_text s (length l) l) refl in
       let c : 1 + (s - 0) ≡ s + 1 = omega arith in
       ap (fields_from 1) (sym (part_all 0 l)) ∙ f.anywhere 1 ∙ ap (λ (n : ℕ). field n (field_text s (length l) l) ∷ others) c
 
@@ -81,7 +80,7 @@ module _ (l : List ℕ) (s : ℕ) (b : StartsAt 0 l s) where
   pub unstarred : (get_or l s 0 ≡ 42 → ⊥) → starred (fields_of l) ≡ false
   unstarred n =
       ap starred (ap fields_of (sym (part_all 0 l)))
-      ∙ sym (star_not 0 (length l) s l (line_from (omega arith)) b.found n)
+      ∙ sym (star_not 0 (length l) s l (in_line _ _ (omega arith)) b.found n)
 
   -- one that is read as no shape is at fault there
   pub shape_is : (o : Option Shape) (end : ℕ) → shape_said o (fault BadMarker (s + 1)) end (fields_of l) ≡ say_fields end (fields_of l) o

@@ -21,10 +21,9 @@ use Rattle.text.specs.FieldBounds.{field_start}
 use Rattle.text.specs.Digits.{field_text, FieldRead}
 use Rattle.text.specs.Values.{value_in}
 use Rattle.text.specs.declared.numbers.NumberField.{NumberField}
-use Rattle.text.proofs.ScanLaws.{between_yes}
+use Rattle.text.proofs.ScanLaws.{in_line, between_yes}
 use Rattle.line.specs.Fields.{FieldLeft, FieldAs, FieldWrong}
 use Rattle.line.specs.Fitting.{line_fields, end_column}
-use Rattle.line.proofs.FieldLaws.{line_from}
 use Rattle.line.proofs.FitLaws.{Fitting, fitting_start, fitting_step, fitting_end, line_wrong, line_many, line_end}
 
 -- ---- the loop over four quarters
@@ -123,7 +122,7 @@ module _ {at stop : ℕ} {l : List ℕ} {text i k : ℕ} (q : Quarters at stop l
 -- ---- a line by itself
 
 pub plain_start : (l : List ℕ) → Quarters 0 (length l) l 0 0 0
-plain_start l = quarters_start 0 (length l) l (line_from (omega arith))
+plain_start l = quarters_start 0 (length l) l (in_line _ _ (omega arith))
 
 module _ {l : List ℕ} {text i k : ℕ} (q : Quarters 0 (length l) l text i k) where
   -- it is at fault, where its first field is no asterisk
