@@ -37,7 +37,6 @@ fn usual_line(file: &[u8], at: usize, expected: Expected) -> Option<usize>
 }
 
 // The records from `at` on, at most so many.
-#[tactic(auto, using(crate::proofs::LineReadLaws::read_more))]
 pub fn read_records(file: &[u8], at: usize, expected: Expected, most: usize) -> Run
     requires { at ≤ length file.now }
     ensures { RecordsRead expected at file.now most result }

@@ -41,7 +41,6 @@ pub fn line_end(file: &[u8], at: usize, end: usize) -> Option<usize>
 }
 
 // A word with a type, from `start` on: an asterisk, the quarters, 0, the type, and what it refers to.
-#[tactic(auto, using(crate::proofs::LineReadLaws::linked_read))]
 fn linked_word(file: &[u8], at: usize, start: usize) -> Option<usize>
     requires { Stretch is_space file.now at start }
     ensures { IfSome result (LineRead CodeRecord at file.now) }
@@ -107,7 +106,6 @@ pub fn external(file: &[u8], at: usize) -> Option<usize>
 }
 
 // An entry: its name and value, then 0, or 1 and a number.
-#[tactic(auto, using(crate::proofs::LineReadLaws::absolute_read, crate::proofs::LineReadLaws::relocated_read))]
 pub fn entry(file: &[u8], at: usize) -> Option<usize>
     requires { at ≤ length file.now }
     ensures { IfSome result (LineRead EntryRecord at file.now) }
