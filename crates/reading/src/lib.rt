@@ -13,7 +13,7 @@ ghost use Rattle.reading.specs.Lines.{RunFrom, Begins, LinesInto, ReadOn};
 ghost use Rattle.rules.specs.Limits.{longest_file};
 
 use crate::fill::{Filled, nothing};
-use crate::keep::{IntoTables, Keep, Nowhere};
+use crate::keep::{keep_module, keep_part, keep_section};
 use crate::said::said_at;
 use rules::line::{CodeWord, Expected, Relocation};
 use rules::reading::{Mode, Reading, Step, Stop};
@@ -68,11 +68,11 @@ fn plain(text: u64) -> CodeWord
 }
 
 // Records in their usual form, which need not be looked at one by one where nothing of them is kept.
-fn run_from<K: Keep>(file: &[u8], at: usize, here: Mode) -> Run
+fn run_from(file: &[u8], at: usize, here: Mode, keep: bool) -> Run
     requires { at ≤ length file.now }
-    ensures { RunFrom file.now at here K.keeps result }
+    ensures { RunFrom file.now at here keep result }
 {
-    if K::keeps() {
+    if keep {
         return Run { count: 0, next: at };
     }
     read_records(file, at, here.expected, room(here))
@@ -80,14 +80,15 @@ fn run_from<K: Keep>(file: &[u8], at: usize, here: Mode) -> Run
 
 // Every line is looked at once; what it adds is written at once, so that a fault leaves the tables as they stand there. A code word in
 // its usual form needs no step built for it: most lines are such. Neither does a line that is empty.
-pub fn read_lines<K: Keep>(
+pub fn read_lines(
     file: &[u8],
     from: Place,
+    keep: bool,
     parts: &mut [u64],
     rows: &mut [u64],
 ) -> LinesRead
-    requires { Begins file.now from K.keeps parts.old rows.old }
-    ensures { LinesInto file.now from K.keeps parts.old rows.old result parts.new rows.new }
+    requires { Begins file.now from keep parts.old rows.old }
+    ensures { LinesInto file.now from keep parts.old rows.old result parts.new rows.new }
 {
     let mut mode = from.mode;
     let mut filled = nothing();
@@ -101,7 +102,7 @@ pub fn read_lines<K: Keep>(
             continue;
         }
         let here = renewed(mode);
-        let run = run_from::<K>(file, at, here);
+        let run = run_from(file, at, here, keep);
         if 0 < run.count {
             mode = records_done(here, run.count as u16);
             line = n + run.count as u32;
@@ -109,12 +110,12 @@ pub fn read_lines<K: Keep>(
             continue;
         }
         if let Some(word) = usual_word(file, at, here.expected) {
-            filled = K::part(parts, filled, word_part(here, plain(word.text)));
+            filled = keep_part(keep, parts, filled, word_part(here, plain(word.text)));
             mode = record_done(Expected::CodeRecord, here);
             at = word.next;
             continue;
         }
-        let said = said_at::<K>(file, at, here.expected);
+        let said = said_at(file, at, here.expected, keep);
         let step = step_of(n, here, said.answer);
         at = said.next;
         match step {
@@ -128,15 +129,15 @@ pub fn read_lines<K: Keep>(
             }
             Step::Next(m) => mode = m,
             Step::Add(m, part) => {
-                filled = K::part(parts, filled, part);
+                filled = keep_part(keep, parts, filled, part);
                 mode = m;
             }
             Step::CloseModule(m, header) => {
-                filled = K::module(rows, filled, m.section.inside, header);
+                filled = keep_module(keep, rows, filled, m.section.inside, header);
                 mode = m;
             }
             Step::CloseSection(m, header) => {
-                filled = K::section(rows, filled, header);
+                filled = keep_section(keep, rows, filled, header);
                 mode = m;
             }
         }
@@ -155,7 +156,7 @@ pub fn read_file(file: &[u8], parts: &mut [u64], rows: &mut [u64]) -> FileRead
         line: 1,
         mode: at_start(),
     };
-    let read = read_lines::<IntoTables>(file, start, parts, rows);
+    let read = read_lines(file, start, true, parts, rows);
     FileRead {
         reading: read
             .reached
@@ -172,6 +173,6 @@ pub fn read_on(file: &[u8], from: Place) -> Reached
 {
     let mut parts = [0u64; 1];
     let mut rows = [0u64; 1];
-    let read = read_lines::<Nowhere>(file, from, &mut parts, &mut rows);
+    let read = read_lines(file, from, false, &mut parts, &mut rows);
     read.reached
 }

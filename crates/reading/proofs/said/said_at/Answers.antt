@@ -5,10 +5,10 @@ use Rattle.reading.proofs.said.said_at.Goals as goal
 
 pub line_answer-requires : goal.line_answer-requires
 unfolding part
-line_answer-requires g c = c.line_from-span.ensures.fronts
+line_answer-requires c = c.line_from-span.ensures.fronts
 
 pub returns : goal.returns
 unfolding part
-returns g c =
+returns c =
     let l = c.line_from-span.ensures in
     record { line = _; lines = l.lines; says = c.line_answer.ensures; moves = l.moves; ends = l.ends }
