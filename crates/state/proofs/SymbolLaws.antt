@@ -1,10 +1,11 @@
 -- The table of symbols in cells: the loops that go through it.
-use Rattle.std.specs.Prelude.{Some, None, ◌==◌, count_by, slice_range}
+use Rattle.std.specs.Prelude.{Option, Some, None, SomeIff, ◌==◌, count_by, slice_range}
 use Prim.Native.Nat.{ℕ, ◌+◌, ◌-◌, ◌≤◌, ◌<◌}
 use mathlib.Core.Bool.{Bool, true, false, cond, not, ◌||◌}
 use mathlib.Core.List.{List, [], ◌∷◌, map}
 use mathlib.Core.Logic.{◌≢◌}
-use mathlib.Core.Path.{◌≡◌, refl, sym, ap, ◌∙◌}
+use mathlib.Core.Path.{◌≡◌, refl, sym, ap, subst, ◌∙◌}
+use native.Mathlib.Decide.{ℕ_discrete}
 use native.Mathlib.Nat.{sub-zero}
 use native.Mathlib.Omega.{arith}
 use borrow.Author.Tests.{eq-eqb, ne_eqb, leb-true}
@@ -18,7 +19,7 @@ use Rattle.state.specs.Good.{sound_value, Good}
 use Rattle.state.specs.Table.{no_symbol, Listing, undefined_position}
 use Rattle.state.proofs.BoolLaws.{first}
 use Rattle.state.proofs.ListLaws.{range_step, range_end, all_at, region}
-use Rattle.state.proofs.LayoutLaws.{count_is, symbol_is_lem, encode_value}
+use Rattle.state.proofs.LayoutLaws.{count_is, inside, symbol_is_lem, encode_value}
 
 module _ (cells : List ℕ) (i : ℕ) where
   symbols_step : i < get_or cells 0 0 → symbols_from cells i ≡ symbol_in cells i ∷ symbols_from cells (i + 1)
@@ -88,6 +89,31 @@ module _ {cells : List ℕ} (g : Good cells) (i : ℕ) (h : i < get_or cells 0 0
   pub value_defined : get_or cells (260 + i) 0 ≢ 0 → value_of (decode cells).symbols i ≡ get_or cells (260 + i) 0 - 65536
   unfolding value_of
   value_defined e = rw (symbol_is_lem cells i h, ne_eqb _ _ e)
+
+-- a value's cell by the subtraction that takes 65,536 from it, where it is as large
+module _ {cells : List ℕ} (g : Good cells) (i : ℕ) (h : i < length (decode cells).symbols) where
+  pub listing_is : {r : Option ℕ} → SomeIff r (65536 ≤ get_or cells (260 + i) 0) (get_or cells (260 + i) 0 - 65536) →
+      Listing (get_or (decode cells).symbols i no_symbol) (record { name = get_or cells (4 + i) 0; value = r })
+  listing_is {r} e = go r e
+    where
+      go : (r : Option ℕ) → SomeIff r (65536 ≤ get_or cells (260 + i) 0) (get_or cells (260 + i) 0 - 65536) →
+          Listing (get_or (decode cells).symbols i no_symbol) (record { name = get_or cells (4 + i) 0; value = r })
+      go None e = elim (ℕ_discrete (get_or cells (260 + i) 0) 0) [
+        | yes z ↦ listing_undefined g i (inside cells i h) z
+        | no z ↦ absurd (e (value_large g i (inside cells i h) z))
+      ]
+      go (Some v) e =
+          subst (λ (k : ℕ). Listing (get_or (decode cells).symbols i no_symbol) (record { name = get_or cells (4 + i) 0; value = Some k })) (sym e.1)
+          (listing_defined g i (inside cells i h) (omega (arith, e.0)))
+
+  pub value_is : value_of (decode cells).symbols i ≡ get_or cells (260 + i) 0 - 65536
+  value_is = elim (ℕ_discrete (get_or cells (260 + i) 0) 0) [
+    | yes z ↦ value_undefined g i (inside cells i h) z ∙ omega arith
+    | no z ↦ value_defined g i (inside cells i h) z
+  ]
+
+  pub value_fits : get_or cells (260 + i) 0 - 65536 < 65536
+  value_fits = omega (arith, value_small g i (inside cells i h))
 
 -- how many undefined symbols there are, by the values' cells
 undefined_among : (cells l : List ℕ) → count_by (λ v. v == 0) (map (λ i. get_or cells (260 + i) 0) l) ≡ length (undefined_only (map (symbol_in cells) l))

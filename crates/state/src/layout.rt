@@ -1,6 +1,4 @@
 // The regions of state memory: four cells of header, then four tables.
-use rules::limits::PROGRAM_WORDS;
-
 // The header: how many symbols there are, the next address, the mark, and a cell that is 0.
 pub const COUNT: usize = 0;
 
@@ -21,8 +19,6 @@ pub const TAGS: usize = 4612;
 
 // The fixed length of state memory.
 pub const SIZE: usize = 8708;
-
-pub const LAST_ADDRESS: usize = PROGRAM_WORDS - 1;
 
 // The marks, each with the number in its cell.
 #[derive(Clone, Copy, PartialEq, Eq)]

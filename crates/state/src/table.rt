@@ -83,10 +83,10 @@ pub fn symbol_at(state: &[u64], i: usize) -> Listed
     requires i_in_bounds { i < length (decode state.now).symbols }
     ensures { Listing (get_or (decode state.now).symbols i no_symbol) result }
 {
-    let name = state[NAMES + i];
-    let v = state[VALUES + i];
-    let value = if v == 0 { None } else { Some(v - DEFINED) };
-    Listed { name, value }
+    Listed {
+        name: state[NAMES + i],
+        value: state[VALUES + i].checked_sub(DEFINED),
+    }
 }
 
 // What a reference to the symbol adds: its value, 0 where it is undefined.
@@ -95,11 +95,7 @@ pub fn value_of(state: &[u64], i: usize) -> u16
     requires i_in_bounds { i < length (decode state.now).symbols }
     ensures { result ≡ value_of (decode state.now).symbols i }
 {
-    let v = state[VALUES + i];
-    if v == 0 {
-        return 0;
-    }
-    (v - DEFINED) as u16
+    state[VALUES + i].saturating_sub(DEFINED) as u16
 }
 
 pub fn undefined_count(state: &[u64]) -> usize

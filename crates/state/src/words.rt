@@ -79,6 +79,7 @@ fn last_reference(tags: &[u64], reference: u64) -> Option<usize>
 }
 
 // The highest address that refers to a symbol, 65,535 if none.
+// Kept: the number is the papers' own, rules' definition `highest` answers it, and so does every caller.
 pub fn highest(state: &[u64], symbol: usize) -> usize
     requires good { Good state.now }
     requires symbol_le_most_symbols { symbol ≤ most_symbols }
@@ -95,6 +96,7 @@ fn last_placed(tags: &[u64]) -> Option<usize>
 }
 
 // HIGH: the highest address that holds a placed word, 65,535 if none is placed.
+// Kept: the number is the papers' own, as above.
 pub fn high(state: &[u64]) -> usize
     requires { Good state.now }
     ensures { result ≡ high_in (decode state.now).words }
