@@ -88,6 +88,9 @@ pub fn mention_all(
     ensures { Mentioned (externals_in (parts_in parts.entry)) (decode state.old) result state.new × Ordered state.new order.new }
 {
     let mut at = [0u16; EXTERNAL_ROOM];
+
+    // Kept: count, beside the loop. parts.filter(..).enumerate() would give it with the part, but each turn would then pass by a run of
+    // parts, of which the invariant has to say that none is an external: no plainer.
     let mut count = 0;
     for part in parts {
         if is_external(part.head) {
