@@ -58,13 +58,6 @@ pub fn link(state: &mut [u64], work: &mut [u64], file: &[u8], out: &mut [u8]) ->
     LinkAnswers { load, end }
 }
 
-// Two links of one file.
-#[derive(Clone, Copy)]
-pub struct TwoLinks {
-    pub first: LinkAnswers,
-    pub second: LinkAnswers,
-}
-
 // Last week's card and this week's: two memories that held different things, and one file. Answers, images and states are equal.
 pub fn link_two(
     first: &mut [u64],
@@ -73,13 +66,10 @@ pub fn link_two(
     file: &[u8],
     out: &mut [u8],
     again: &mut [u8],
-) -> TwoLinks
-    ensures { HasLength first.old → HasLength second.old → out.old ≡ again.old → SameLinks result.first.load result.second.load result.first.end result.second.end first.new second.new out.new again.new }
+) -> (LinkAnswers, LinkAnswers)
+    ensures { HasLength first.old → HasLength second.old → out.old ≡ again.old → SameLinks result.0.load result.1.load result.0.end result.1.end first.new second.new out.new again.new }
 {
     let a = link(first, work, file, out);
     let b = link(second, work, file, again);
-    TwoLinks {
-        first: a,
-        second: b,
-    }
+    (a, b)
 }

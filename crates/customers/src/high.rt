@@ -5,40 +5,40 @@ ghost use Rattle.state.specs.Sequence.{NotLower};
 use linker::{lnk100_base, lnk100_force, lnk100_load, lnk100_memory};
 use rules::answer::MemoryAnswer;
 
-// MEMORY, asked twice.
-#[derive(Clone, Copy)]
-pub struct AskedTwice {
-    pub first: MemoryAnswer,
-    pub second: MemoryAnswer,
-}
+// Each asks MEMORY twice, and answers both of its answers.
 
 // Whatever is forced, MEMORY answers as it did.
-pub fn force_between(state: &mut [u64], name: &[u8]) -> AskedTwice
-    ensures { result.second ≡ result.first }
+pub fn force_between(state: &mut [u64], name: &[u8]) -> (MemoryAnswer, MemoryAnswer)
+    ensures { result.1 ≡ result.0 }
 {
     let first = lnk100_memory(state);
     lnk100_force(state, name);
     let second = lnk100_memory(state);
-    AskedTwice { first, second }
+    (first, second)
 }
 
 // Wherever the base moves, MEMORY answers as it did.
-pub fn base_between(state: &mut [u64], address: u64) -> AskedTwice
-    ensures { result.second ≡ result.first }
+pub fn base_between(state: &mut [u64], address: u64) -> (MemoryAnswer, MemoryAnswer)
+    ensures { result.1 ≡ result.0 }
 {
     let first = lnk100_memory(state);
     lnk100_base(state, address);
     let second = lnk100_memory(state);
-    AskedTwice { first, second }
+    (first, second)
 }
 
 // The lab of request 1/14: whatever stands in memory, wherever the base moves and whatever is loaded there, HIGH is not lower.
-pub fn step_back(state: &mut [u64], address: u64, work: &mut [u64], file: &[u8]) -> AskedTwice
-    ensures { NotLower result.first result.second }
+pub fn step_back(
+    state: &mut [u64],
+    address: u64,
+    work: &mut [u64],
+    file: &[u8],
+) -> (MemoryAnswer, MemoryAnswer)
+    ensures { NotLower result.0 result.1 }
 {
     let first = lnk100_memory(state);
     lnk100_base(state, address);
     lnk100_load(state, work, file);
     let second = lnk100_memory(state);
-    AskedTwice { first, second }
+    (first, second)
 }

@@ -11,16 +11,10 @@ pub fn end(state: &mut [u64], out: &mut [u8]) -> EndAnswer
 }
 
 // Two ENDs of one link.
-#[derive(Clone, Copy)]
-pub struct TwoEnds {
-    pub first: EndAnswer,
-    pub second: EndAnswer,
-}
-
-pub fn end_twice(state: &mut [u64], out: &mut [u8], again: &mut [u8]) -> TwoEnds
-    ensures { SameEnds out.old again.old result.first result.second out.new again.new }
+pub fn end_twice(state: &mut [u64], out: &mut [u8], again: &mut [u8]) -> (EndAnswer, EndAnswer)
+    ensures { SameEnds out.old again.old result.0 result.1 out.new again.new }
 {
     let first = lnk100_end(state, out);
     let second = lnk100_end(state, again);
-    TwoEnds { first, second }
+    (first, second)
 }

@@ -11,16 +11,15 @@ pub fn load(state: &mut [u64], work: &mut [u64], file: &[u8]) -> LoadAnswer
 }
 
 // A load, and a symbol that is listed behind it.
-#[derive(Clone, Copy)]
-pub struct LoadThenList {
-    pub load: LoadAnswer,
-    pub symbol: SymbolAnswer,
-}
-
-pub fn load_then_list(state: &mut [u64], work: &mut [u64], file: &[u8], index: u64) -> LoadThenList
-    ensures { Listed state.old file.now index result.load result.symbol }
+pub fn load_then_list(
+    state: &mut [u64],
+    work: &mut [u64],
+    file: &[u8],
+    index: u64,
+) -> (LoadAnswer, SymbolAnswer)
+    ensures { Listed state.old file.now index result.0 result.1 }
 {
     let load = lnk100_load(state, work, file);
     let symbol = lnk100_symbols(state, index);
-    LoadThenList { load, symbol }
+    (load, symbol)
 }

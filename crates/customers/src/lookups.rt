@@ -1,23 +1,19 @@
 // A lookup in the table's names: what it tells rests on the names that it reads, and on nothing else.
-ghost use Rattle.std.specs.Prelude.{true, ◌≡◌, length};
+ghost use Rattle.std.specs.Prelude.{true, ◌≡◌};
 ghost use Rattle.state.specs.Good.{Good};
-ghost use Rattle.order.specs.Order.{size};
 ghost use Rattle.customers.specs.Words.{AgreeOnRead};
 
-use order::look_up;
+use order::{Order, look_up};
 
 // Two tables of as many symbols that agree on the names which a lookup reads, nine at most, are told the same, whatever the order is
 // and whatever else stands in them.
-pub fn same_told(state: &[u64], other: &[u64], order: &[u8], name: u64) -> bool
+#[tactic(auto, using(crate::proofs::ReadLaws::same_lookup))]
+pub fn same_told(state: &[u64], other: &[u64], order: &Order, name: u64) -> bool
     requires good { Good state.now × Good other.now }
-    requires order_len { length order.now ≡ size }
     requires agree_on_read { AgreeOnRead state.now other.now order.now name }
     ensures { result ≡ true }
 {
     let one = look_up(state, order, name);
     let two = look_up(other, order, name);
-    if one.rank != two.rank {
-        return false;
-    }
-    one.position == two.position
+    one.rank == two.rank && one.position == two.position
 }

@@ -7,41 +7,28 @@ use linker::{
 use rules::answer::{CallAnswer, LoadAnswer, SymbolAnswer, UndefinedAnswer};
 
 // A FORCE, and the first undefined symbol behind it.
-#[derive(Clone, Copy)]
-pub struct ForceThenList {
-    pub force: CallAnswer,
-    pub listed: UndefinedAnswer,
-}
-
-pub fn force_then_list(state: &mut [u64], name: &[u8]) -> ForceThenList
-    ensures { Forced state.old name.now result.force result.listed }
+pub fn force_then_list(state: &mut [u64], name: &[u8]) -> (CallAnswer, UndefinedAnswer)
+    ensures { Forced state.old name.now result.0 result.1 }
 {
     lnk100_reset(state);
     let force = lnk100_force(state, name);
     let listed = lnk100_undefined(state, 0);
-    ForceThenList { force, listed }
+    (force, listed)
 }
 
 // A BASE, a load there, and a symbol that is listed behind it.
-#[derive(Clone, Copy)]
-pub struct BaseThenLoad {
-    pub base: CallAnswer,
-    pub load: LoadAnswer,
-    pub listed: SymbolAnswer,
-}
-
 pub fn base_then_load(
     state: &mut [u64],
     address: u64,
     work: &mut [u64],
     file: &[u8],
     index: u64,
-) -> BaseThenLoad
-    ensures { Moved state.old address file.now index result.base result.load result.listed }
+) -> (CallAnswer, LoadAnswer, SymbolAnswer)
+    ensures { Moved state.old address file.now index result.0 result.1 result.2 }
 {
     lnk100_reset(state);
     let base = lnk100_base(state, address);
     let load = lnk100_load(state, work, file);
     let listed = lnk100_symbols(state, index);
-    BaseThenLoad { base, load, listed }
+    (base, load, listed)
 }

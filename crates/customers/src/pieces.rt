@@ -20,19 +20,12 @@ pub fn load_in_two(
     lnk100_close(feed, state, work)
 }
 
-// What a piece advises, and the drop behind it.
-#[derive(Clone, Copy)]
-pub struct TriedPiece {
-    pub piece: FeedAnswer,
-    pub drop: CallAnswer,
-}
-
-// A file's first piece is tried for its faults, and nothing is loaded.
-pub fn try_piece(feed: &mut [u64], piece: &[u8]) -> TriedPiece
-    ensures { Tried feed.old piece.now result.piece result.drop feed.new }
+// A file's first piece is tried for its faults, and nothing is loaded: what it advises, and the drop behind it.
+pub fn try_piece(feed: &mut [u64], piece: &[u8]) -> (FeedAnswer, CallAnswer)
+    ensures { Tried feed.old piece.now result.0 result.1 feed.new }
 {
     lnk100_open(feed);
     let a = lnk100_feed(feed, piece);
     let d = lnk100_drop(feed);
-    TriedPiece { piece: a, drop: d }
+    (a, d)
 }

@@ -7,61 +7,60 @@ ghost use Rattle.customers.specs.Words.{Broke};
 use linker::{lnk100_base, lnk100_end, lnk100_force, lnk100_load};
 use rules::answer::{CallAnswer, EndAnswer, LoadAnswer};
 
-// Two loads.
-#[derive(Clone, Copy)]
-pub struct LoadAgain {
-    pub first: LoadAnswer,
-    pub second: LoadAnswer,
-}
-
 // After a load that was refused for its file, a load of any file is refused by 3.
-pub fn load_again(state: &mut [u64], work: &mut [u64], file: &[u8], other: &[u8]) -> LoadAgain
-    ensures { Broke result.first → result.second ≡ load_answer 3 0 0 0 }
+pub fn load_again(
+    state: &mut [u64],
+    work: &mut [u64],
+    file: &[u8],
+    other: &[u8],
+) -> (LoadAnswer, LoadAnswer)
+    ensures { Broke result.0 → result.1 ≡ load_answer 3 0 0 0 }
 {
     let first = lnk100_load(state, work, file);
     let second = lnk100_load(state, work, other);
-    LoadAgain { first, second }
-}
-
-// A load, and a call that answers a number alone.
-#[derive(Clone, Copy)]
-pub struct CallAfter {
-    pub load: LoadAnswer,
-    pub call: CallAnswer,
+    (first, second)
 }
 
 // So is any FORCE.
-pub fn force_after(state: &mut [u64], work: &mut [u64], file: &[u8], name: &[u8]) -> CallAfter
-    ensures { Broke result.load → result.call ≡ call_answer 3 }
+pub fn force_after(
+    state: &mut [u64],
+    work: &mut [u64],
+    file: &[u8],
+    name: &[u8],
+) -> (LoadAnswer, CallAnswer)
+    ensures { Broke result.0 → result.1 ≡ call_answer 3 }
 {
     let load = lnk100_load(state, work, file);
     let call = lnk100_force(state, name);
-    CallAfter { load, call }
+    (load, call)
 }
 
 // So is any BASE.
-pub fn base_after(state: &mut [u64], work: &mut [u64], file: &[u8], address: u64) -> CallAfter
-    ensures { Broke result.load → result.call ≡ call_answer 3 }
+pub fn base_after(
+    state: &mut [u64],
+    work: &mut [u64],
+    file: &[u8],
+    address: u64,
+) -> (LoadAnswer, CallAnswer)
+    ensures { Broke result.0 → result.1 ≡ call_answer 3 }
 {
     let load = lnk100_load(state, work, file);
     let call = lnk100_base(state, address);
-    CallAfter { load, call }
-}
-
-// A load and an END.
-#[derive(Clone, Copy)]
-pub struct LoadAndEnd {
-    pub load: LoadAnswer,
-    pub end: EndAnswer,
+    (load, call)
 }
 
 // So is END, which then writes nothing.
-pub fn end_after(state: &mut [u64], work: &mut [u64], file: &[u8], out: &mut [u8]) -> LoadAndEnd
-    ensures { Broke result.load → (result.end ≡ end_answer 3 0) × (out.new ≡ out.old) }
+pub fn end_after(
+    state: &mut [u64],
+    work: &mut [u64],
+    file: &[u8],
+    out: &mut [u8],
+) -> (LoadAnswer, EndAnswer)
+    ensures { Broke result.0 → (result.1 ≡ end_answer 3 0) × (out.new ≡ out.old) }
 {
     let load = lnk100_load(state, work, file);
     let end = lnk100_end(state, out);
-    LoadAndEnd { load, end }
+    (load, end)
 }
 
 // Once END is done, a load is refused by 4.
@@ -70,10 +69,10 @@ pub fn load_after_end(
     work: &mut [u64],
     file: &[u8],
     out: &mut [u8],
-) -> LoadAndEnd
-    ensures { result.end.number ≡ 0 → length work.old ≡ work_size → result.load ≡ load_answer 4 0 0 0 }
+) -> (EndAnswer, LoadAnswer)
+    ensures { result.0.number ≡ 0 → length work.old ≡ work_size → result.1 ≡ load_answer 4 0 0 0 }
 {
     let end = lnk100_end(state, out);
     let load = lnk100_load(state, work, file);
-    LoadAndEnd { load, end }
+    (end, load)
 }

@@ -53,6 +53,7 @@ struct Output<'a> {
 }
 
 impl Output<'_> {
+    #[tactic(auto, using(std::proofs::lemmas::Slice::overwrites))]
     fn put(&mut self, piece: &[u8])
         requires { self.old.at + length piece.now ≤ length self.old.bytes.now }
         ensures { Puts piece.now self.old self.new }
@@ -108,6 +109,7 @@ impl Output<'_> {
 }
 
 // How many bytes the image has.
+#[tactic(auto, using(crate::proofs::WriteLaws::count_from, crate::proofs::WriteLaws::count_end, rules::proofs::ImageLaws::image_length_lem))]
 pub fn image_length(state: &[u64]) -> usize
     requires { Good state.now }
     ensures { result ≡ length (image_of (decode state.now)) }

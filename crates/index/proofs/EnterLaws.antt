@@ -2,7 +2,7 @@
 use Prim.Native.Nat.{ℕ, zero, suc, ◌+◌, ◌*◌, ◌<◌, ◌≤◌}
 use native.Mathlib.Omega.{arith}
 use native.Mathlib.Decide.{ℕ_discrete, dec_lt}
-use mathlib.Core.List.{List}
+use mathlib.Core.List.{◌++◌, List}
 use mathlib.Core.Logic.{◌≢◌}
 use mathlib.Core.Path.{◌≡◌, sym, ap, subst, ◌∙◌}
 use lib.ListN.{length, get_or, set, length-set}
@@ -11,22 +11,19 @@ use lib.Dec.{eqb}
 use borrow.Author.Tests.{eqb-false}
 use Rattle.tables.specs.Tables.{body_in}
 use Rattle.index.specs.Index.{size, count_of, name_at, owner_at, link_of, bits_at, cell_at, Link, Passed, Reached, Indexed, Sought, entered, Added, Cleared}
+use Rattle.std.proofs.lemmas.List.{get_or-replicate, length-replicate}
+use Rattle.std.proofs.Math.ListN.{get_or-append, replicate, drop, length-append, length-drop}
 use Rattle.index.proofs.LastLaws.{last_none}
 use Rattle.index.proofs.SeekLaws.{cell_start, cell_next, passed_less, cell_link}
 
 -- ---- an empty index
 
-pub cleared_start : {index : List ℕ} → length index ≡ size → Cleared 0 index
-cleared_start h = record { long = h; zeros = λ i l. absurd (omega arith) }
-
-pub cleared_next : {k : ℕ} {index : List ℕ} → Cleared k index → k < 2048 → Cleared (k + 1) (set index k 0)
-cleared_next {k} {index} c l =
+pub cleared : (front index : List ℕ) → front ≡ replicate 2048 0 → length index ≡ size → Cleared 2048 (front ++ drop 2048 index)
+cleared front index e h =
+    let long : length front ≡ 2048 = ap length e ∙ length-replicate {A = ℕ} 2048 0 in
     record {
-      long = length-set index k 0 ∙ c.long;
-      zeros = λ i h. elim (ℕ_discrete i k) [
-        | yes q ↦ ap (λ i. get_or (set index k 0) i 0) q ∙ get_or-set_same index k 0 0 (omega (arith, c.long))
-        | no q ↦ get_or-set_other index k i 0 0 q ∙ c.zeros i (omega (arith, q))
-      ];
+      long = length-append front (drop 2048 index) ∙ omega (arith, long, length-drop 2048 index, h);
+      zeros = λ i l. get_or-append front (drop 2048 index) 0 i (omega (arith, l, long)) ∙ ap (λ f. get_or f i 0) e ∙ get_or-replicate {A = ℕ} 2048 i 0 0 l;
     }
 
 pub cleared_indexed : (parts : List ℕ) {index : List ℕ} → Cleared 2048 index → Indexed parts index

@@ -5,9 +5,9 @@ use native.Mathlib.Omega.{arith}
 use native.Mathlib.Decide.{ℕ_discrete}
 use mathlib.Core.Bool.{Bool, true, false, cond, not, ◌||◌}
 use mathlib.Core.List.{List, [], ◌∷◌, ◌++◌}
-use mathlib.Core.Logic.{◌⊎◌, inl, inr, ◌≢◌}
+use mathlib.Core.Logic.{◌⊎◌, inl, inr}
 use mathlib.Core.Path.{◌≡◌, refl, sym, ap, ap₂, subst, ◌∙◌}
-use lib.ListN.{length, get_or, take, drop, length-take, length-drop}
+use lib.ListN.{length, get_or, take, drop, length-take}
 use lib.Seq.{get_or-take, get_or-drop}
 use lib.Dec.{eqb}
 use borrow.Author.Tests.{eqb-true, eq-eqb, ne_eqb, not-false}
@@ -18,7 +18,7 @@ use Rattle.rules.proofs.BoolLaws.{never, eqb_same}
 use Rattle.tables.specs.Tables.{head_in, body_in, start_in, end_in, cells_in, module_in, modules_in}
 use Rattle.tables.specs.Heads.{parts_from, is_entry, names_in}
 use Rattle.tables.proofs.HeadLaws.{parts_done, names_next}
-use Rattle.index.specs.Index.{size, count_of, name_at, owner_at, last_where, named, holds, Indexed, Sought, entered, Added, PartAdded, names_from, Owner, Owns, clash, Filled, Cleared, Tested}
+use Rattle.index.specs.Index.{count_of, name_at, owner_at, last_where, named, holds, Indexed, Sought, entered, Added, PartAdded, names_from, Owner, Owns, clash, Filled, Cleared, Tested}
 use Rattle.index.proofs.LastLaws.{last_most, last_same, last_next}
 use Rattle.index.proofs.EnterLaws.{cleared_indexed, entry_added}
 
@@ -119,10 +119,6 @@ module _ {parts : List ℕ} {part owner : ℕ} {before after : List ℕ} (a : Ad
 -- ---- a part, if it is an entry
 
 module _ {parts : List ℕ} (part owner : ℕ) {before : List ℕ} where
-  pub part_other : Indexed parts before → is_entry (head_in parts part) ≡ false → PartAdded parts part owner before false before
-  part_other g e =
-      record { long = g.long; other = λ _. (refl, refl); again = λ h. never h e; new = λ h. never h e }
-
   module _ (g : Indexed parts before) (e : is_entry (head_in parts part) ≡ true) {name at : ℕ} (q : name ≡ body_in parts part)
       (s : Sought parts before name at) where
     own : Sought parts before (body_in parts part) at
@@ -138,15 +134,6 @@ module _ {parts : List ℕ} (part owner : ℕ) {before : List ℕ} where
           other = λ h. never e h;
           again = λ _ r. never r refl;
           new = λ _ _. (ap not (eq-eqb _ _ (sym own.found.is ∙ z)), a);
-        }
-
-    pub part_again : get_or before at 0 ≢ 0 → PartAdded parts part owner before true before
-    part_again n =
-        record {
-          long = g.long;
-          other = λ h. never e h;
-          again = λ _ _. ap not (ne_eqb _ _ (λ z. n (own.found.is ∙ z)));
-          new = λ _ r. never refl r;
         }
 
 -- ---- the cells of a module
@@ -221,18 +208,6 @@ module _ (parts rows : List ℕ) (first n m : ℕ) where
           ap (λ c. get_or c (2 * q + 1) 0) lent
           ∙ lent_cell parts (2 * start_in rows (first + m)) (2 * end_in rows (first + m) - 2 * start_in rows (first + m)) (2 * q + 1) (subst (λ c. 2 * q + 1 < length c) lent (omega arith))
           ∙ ap (λ i. get_or parts i 0) at
-
-      pub part_small : length parts ≤ 131072 → part < 65536
-      part_small h =
-          let b : 2 * q + 1 < length (cells_in parts (start_in rows (first + m)) (end_in rows (first + m))) =
-          subst (λ c. 2 * q + 1 < length c) lent (omega arith) in
-          omega (
-            arith,
-            h,
-            b,
-            length-take (2 * end_in rows (first + m) - 2 * start_in rows (first + m)) (drop (2 * start_in rows (first + m)) parts),
-            length-drop (2 * start_in rows (first + m)) parts,
-          )
 
       -- the names from this part on, by what the part is
       from_next : {b : Bool} → is_entry (head_in parts part) ≡ b → from q ≡ cond b (body_in parts part ∷ from (q + 1)) (from (q + 1))
@@ -378,11 +353,6 @@ module _ (parts rows : List ℕ) (first n : ℕ) where
   whole_is =
       let all : n - 0 ≡ n = omega arith in
       ap₂ (λ i k. section_names (modules_in parts rows i k)) (add-zero first) all
-
-  pub tested_again : {index : List ℕ} → length index ≡ size → twice (names_from parts rows first n 0) ≡ true →
-      Tested parts rows first n true index
-  tested_again h t =
-      record { long = h; is = sym (ap twice (sym whole_is) ∙ t); owns = λ f. never refl f }
 
   pub tested_once : {m : ℕ} {index : List ℕ} → m ≡ n → Filled parts rows first n m index → Tested parts rows first n false index
   unfolding modules_in section_names twice any

@@ -8,17 +8,11 @@ use mathlib.Core.Logic.{◌≢◌}
 use mathlib.Core.Path.{◌≡◌, refl, sym, ap, ap₂, subst, ◌∙◌}
 use lib.ListN.{get_or}
 use lib.Dec.{eqb}
-use mir.Syntax.{w16, w64}
-use mir.Val.{Fits}
 use borrow.Author.Tests.{eqb-true, eq-eqb}
 use Rattle.rules.proofs.BoolLaws.{never}
 use Rattle.tables.specs.Tables.{body_in}
 use Rattle.index.specs.Index.{slot_of, bits_at, link_of, cell_at, count_of, name_at, named, Link, Passed, Reached, Indexed, Sought}
 use Rattle.index.proofs.LastLaws.{last_most, last_passes, last_none}
-
--- a cell fits a usize
-pub cell_fits : (index : List ℕ) → ((i : ℕ) → Fits w16 (get_or index i 0)) → (i : ℕ) → Fits w64 (get_or index i 0)
-cell_fits index f i = omega (arith, f i)
 
 -- ---- the cells that a search comes to
 

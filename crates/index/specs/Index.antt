@@ -1,5 +1,5 @@
 -- The index of a section's entries by name: its cells, how a search goes, what makes it an index, and how its functions say what they did.
-use Rattle.std.specs.Prelude.{ℕ, zero, suc, ◌+◌, ◌-◌, ◌*◌, ◌/◌, ◌%◌, ◌<◌, ◌≤◌, Bool, true, false, cond, not, ◌||◌, List, ◌≢◌, ◌≡◌, length, get_or, set, eqb}
+use Rattle.std.specs.Prelude.{ℕ, zero, suc, ◌+◌, ◌-◌, ◌*◌, ◌/◌, ◌%◌, ◌<◌, ◌≤◌, Bool, true, false, cond, not, ◌||◌, List, ◌≢◌, ◌≡◌, length, get_or, set, eqb, Option, None, Some}
 use Rattle.rules.specs.Text.{any}
 use Rattle.rules.specs.Placing.{twice}
 use Rattle.rules.specs.Load.{entry_names, section_names}
@@ -85,6 +85,11 @@ last_where p (suc j) = cond (p j) (suc j) (last_where p j)
 -- the entry of a name, from 1; 0 where there is none
 abbrev pub named : List ℕ → List ℕ → ℕ → ℕ
 named parts index y = last_where (λ k. eqb (name_at parts index k) y) (count_of index)
+
+-- the same number of an entry that is told, from 0, or of none
+abbrev pub entry_told : Option ℕ → ℕ
+entry_told None = 0
+entry_told (Some j) = j + 1
 
 -- is there an entry of this name?
 abbrev pub holds : List ℕ → List ℕ → ℕ → Bool

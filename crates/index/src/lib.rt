@@ -9,18 +9,22 @@
 // names have 48 bits and their quotients 38, and a search meets at most 39 entries (proofs/PathLaws).
 #![tactic(auto)]
 
-ghost use Rattle.std.specs.Prelude.{ℕ, ◌+◌, ◌-◌, ◌<◌, ◌≤◌, true, ◌≡◌, length};
+ghost use Rattle.std.specs.Prelude.{ℕ, ◌+◌, ◌<◌, ◌≤◌, true, ◌≡◌, length, is_err, IsOkUnless};
 ghost use Rattle.rules.specs.Limits.{most_modules, most_entries};
 ghost use Rattle.rules.specs.Load.{entry_names};
 ghost use Rattle.tables.specs.Tables.{most_cells, head_in, module_in};
 ghost use Rattle.tables.specs.Heads.{is_entry};
-ghost use Rattle.index.specs.Index.{size, count_of, owner_at, Indexed, Found, Sought, entered, PartAdded, Filled, ModuleAdded, Cleared, Tested};
+ghost use Rattle.rules.specs.declared.answer.Reason.TheVariants.{Duplicate};
+ghost use Rattle.index.specs.Index.{size, count_of, entry_told, owner_at, Indexed, Found, Sought, entered, PartAdded, Filled, ModuleAdded, Cleared, Tested};
 
+use rules::answer::Reason;
 use tables::cells::{body_at, head_at};
 use tables::heads::is_entry;
-use tables::rows::{Section, module_cells, row_start};
+use tables::rows::{Section, Tables};
 
 pub const SIZE: usize = 67584;
+
+pub type Index = [u16; SIZE];
 
 // Cell 0 counts the entries.
 const COUNT: usize = 0;
@@ -36,7 +40,8 @@ const ENTRIES: usize = 2048;
 const ENTRY_0: usize = 2044;
 
 // The cell where the search for a name ends: it leads to the name's entry, or to none.
-fn seek(parts: &[u64], index: &[u16], name: u64) -> usize
+// Kept: the slots and links are numbers of entries, 0 for none, in one lent array, since the library has no heap for boxes or a map.
+fn seek(parts: &[u64], index: &Index, name: u64) -> usize
     requires { Indexed parts.now index.now }
     ensures { Sought parts.now index.now name result }
 {
@@ -49,33 +54,34 @@ fn seek(parts: &[u64], index: &[u16], name: u64) -> usize
             return at;
         }
         at = entry + 1 + (bits % 2) as usize;
-        bits = bits / 2;
+        bits /= 2;
         k = index[at] as usize;
     }
     at
 }
 
-// The entry of this name, from 1; 0 where there is none.
-pub fn find(parts: &[u64], index: &[u16], name: u64) -> usize
+// The entry of this name, from 0.
+pub fn find(parts: &[u64], index: &Index, name: u64) -> Option<usize>
     requires { Indexed parts.now index.now }
-    ensures { Found parts.now index.now name result }
+    ensures { Found parts.now index.now name (entry_told result) }
 {
     let at = seek(parts, index, name);
-    index[at] as usize
+    (index[at] as usize).checked_sub(1)
 }
 
 // The module of an entry.
-pub fn owner(index: &[u16], k: usize) -> usize
-    requires { (length index.now ≡ size) × (0 < k) × (k ≤ 16384) }
-    ensures { result ≡ owner_at index.now (k - 1) }
+pub fn owner(index: &Index, entry: usize) -> usize
+    requires { entry < 16384 }
+    ensures { result ≡ owner_at index.now entry }
 {
-    index[ENTRY_0 + 4 * k + 3] as usize
+    index[ENTRIES + 4 * entry + 3] as usize
 }
 
 // Puts this part of a module behind the entries, and has the cell lead to it.
-fn enter(at: usize, part: usize, owner: usize, index: &mut [u16])
+#[tactic(auto, unfolding(crate::specs::Index::entered))]
+fn enter(at: usize, part: usize, owner: usize, index: &mut Index)
     requires at_lt_size { (at < size) × (part < 65536) × (owner < most_modules) }
-    requires index_len { (length index.old ≡ size) × (count_of index.old < 16384) }
+    requires index_len { count_of index.old < 16384 }
     ensures { index.new ≡ entered at part owner index.old }
 {
     let n = index[COUNT];
@@ -88,81 +94,60 @@ fn enter(at: usize, part: usize, owner: usize, index: &mut [u16])
     index[COUNT] = n + 1;
 }
 
-// Adds a part of a module, if it is an entry. Was an entry of its name there?
-fn add_part(parts: &[u64], part: usize, owner: usize, index: &mut [u16]) -> bool
+// Adds a part of a module, if it is an entry; 13 where an entry of its name was there.
+fn add_part(parts: &[u64], part: usize, owner: usize, index: &mut Index) -> Result<(), Reason>
     requires part_bound { (part < 65536) × (owner < most_modules) }
     requires indexed { Indexed parts.now index.old × (is_entry (head_in parts.now part) ≡ true → count_of index.old < 16384) }
-    ensures { PartAdded parts.now part owner index.old result index.new }
+    ensures added { PartAdded parts.now part owner index.old (is_err result) index.new }
+    ensures reason { IsOkUnless result Duplicate }
 {
     if !is_entry(head_at(parts, part)) {
-        return false;
+        return Ok(());
     }
     let at = seek(parts, index, body_at(parts, part));
     if index[at] != 0 {
-        return true;
+        return Err(Reason::Duplicate);
     }
     enter(at, part, owner, index);
-    false
+    Ok(())
 }
 
-// Adds the m-th of n modules. Is one of its names entered again?
-fn add_module(
-    parts: &[u64],
-    rows: &[u64],
-    first: usize,
-    n: usize,
-    m: usize,
-    index: &mut [u16],
-) -> bool
-    requires first_bound { (first ≤ 65535) × (n ≤ most_modules) × (m < n) }
-    requires parts_len_bound { length parts.now ≤ most_cells }
-    requires m_len_bound { length (entry_names (module_in parts.now rows.now (first + m))) ≤ most_entries }
-    requires filled { Filled parts.now rows.now first n m index.old }
-    ensures { ModuleAdded parts.now rows.now first n m result index.new }
+// Adds the m-th module of a section; 13 where one of its names is entered again.
+fn add_module(tables: Tables, section: Section, m: usize, index: &mut Index) -> Result<(), Reason>
+    requires first_bound { (section.first ≤ 65535) × (section.count ≤ most_modules) × (m < section.count) }
+    requires parts_len_bound { length tables.parts.now ≤ most_cells }
+    requires m_len_bound { length (entry_names (module_in tables.parts.now tables.rows.now (section.first + m))) ≤ most_entries }
+    requires filled { Filled tables.parts.now tables.rows.now section.first section.count m index.old }
+    ensures added { ModuleAdded tables.entry.parts.now tables.entry.rows.now section.first section.count m (is_err result) index.new }
+    ensures reason { IsOkUnless result Duplicate }
 {
-    let row = first + m;
-    let start = row_start(rows, row);
-    let cells = module_cells(parts, rows, row);
-    let count = cells.len() / 2;
-    let mut q = 0;
-    while q < count {
-        if add_part(parts, start + q, m, index) {
-            return true;
-        }
-        q += 1;
+    let row = section.first + m;
+    let start = tables.start(row);
+    let count = tables.module_cells(row).len() / 2;
+    for q in 0..count {
+        add_part(tables.parts, start + q, m, index)?;
     }
-    false
+    Ok(())
 }
 
 // An empty index.
-fn clear(index: &mut [u16])
-    requires { length index.old ≡ size }
+fn clear(index: &mut Index)
     ensures { Cleared 2048 index.new }
 {
-    let mut i = 0;
-    while i < ENTRIES {
-        index[i] = 0;
-        i += 1;
-    }
+    index[..ENTRIES].fill(0);
 }
 
-// Makes the index of a section's modules. Is a name an entry twice? The index is then of no use.
-pub fn repeats(parts: &[u64], rows: &[u64], section: Section, index: &mut [u16]) -> bool
+// Makes the index of a section's modules; 13 where a name is an entry twice. The index is then of no use.
+pub fn make(tables: Tables, section: Section, index: &mut Index) -> Result<(), Reason>
     requires first_bound { (section.first ≤ 65535) × (section.count ≤ most_modules) }
-    requires parts_len_bound { length parts.now ≤ most_cells }
-    requires by_index { (i : ℕ) → i < section.count → length (entry_names (module_in parts.now rows.now (section.first + i))) ≤ most_entries }
-    requires index_len { length index.old ≡ size }
-    ensures { Tested parts.now rows.now section.first section.count result index.new }
+    requires parts_len_bound { length tables.parts.now ≤ most_cells }
+    requires by_index { (i : ℕ) → i < section.count → length (entry_names (module_in tables.parts.now tables.rows.now (section.first + i))) ≤ most_entries }
+    ensures tested { Tested tables.entry.parts.now tables.entry.rows.now section.first section.count (is_err result) index.new }
+    ensures reason { IsOkUnless result Duplicate }
 {
-    let first = section.first;
-    let n = section.count;
     clear(index);
-    let mut m = 0;
-    while m < n {
-        if add_module(parts, rows, first, n, m, index) {
-            return true;
-        }
-        m += 1;
+    for m in 0..section.count {
+        add_module(tables, section, m, index)?;
     }
-    false
+    Ok(())
 }

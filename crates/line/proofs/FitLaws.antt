@@ -1,17 +1,15 @@
--- The fields of a line against the kinds that they have to be, one after the other. The loop keeps: what is left decides.
+-- The fields of a line against the kinds that they have to be, one after the other: what is left decides.
 -- Assumes nothing.
-use Prim.Native.Nat.{ℕ, zero, suc, ◌+◌, ◌-◌, ◌/◌, ◌%◌, ◌^◌, ◌≤◌, ◌<◌, suc-le-suc}
+use Prim.Native.Nat.{ℕ, zero, suc, ◌+◌, ◌-◌, ◌≤◌, ◌<◌}
 use native.Mathlib.Omega.{arith}
-use mathlib.Core.Bool.{Bool, true, false, cond}
-use mathlib.Core.List.{List, [], ◌∷◌, ◌++◌, map, append_assoc, append-nil}
+use mathlib.Core.List.{List, [], ◌∷◌, ◌++◌, append_assoc, append-nil}
 use mathlib.Core.Path.{◌≡◌, refl, sym, ap, ap₂, ◌∙◌}
-use lib.ListN.{length, drop, get_or, set, length-set, length-map, drop_of_length-le}
+use lib.ListN.{length, drop, get_or, set, length-set, drop_of_length-le}
 use lib.Seq.{drop-cons, get_or-set_same, get_or-set_other}
 use native.Mathlib.Numerals.{add-one}
-use lib.Dec.{eqb}
-use borrow.Author.Tests.{eqb-true, eqb-false}
+use Rattle.std.proofs.lemmas.List.{get_or_default}
 use Rattle.rules.specs.Text.{Field, fields_from, fields_of}
-use Rattle.rules.specs.Line.{nth, value, wrong, read_field, Fitted, fits, misfit, in_front, fit, fit_over, fault}
+use Rattle.rules.specs.Line.{value, wrong, read_field, Fitted, fits, misfit, in_front, fit, fit_over, fault, text_at}
 use Rattle.rules.specs.declared.line.Fault.{Fault}
 use Rattle.rules.specs.declared.line.FaultKind.{FaultKind}
 use Rattle.rules.specs.declared.line.FaultKind.TheVariants.{FieldCount}
@@ -20,10 +18,11 @@ use Rattle.rules.specs.declared.line.Kind.TheVariants.{Anything}
 use Rattle.text.specs.Scan.{part, InFile}
 use Rattle.text.specs.FieldBounds.{field_start, field_stop}
 use Rattle.text.proofs.FieldLaws.{FieldFound, field, field_found, no_field, start_least, start_most}
-use Rattle.line.specs.Fitting.{kind_of, letters_up_to, letters_in, value_as, as_held, values_of, as_fitted, Misfit, line_fields, fit_line}
-use Rattle.line.specs.declared.fields.FieldRead.{FieldRead}
-use Rattle.line.specs.declared.fields.FieldRead.TheVariants.{Value, Wrong}
-use Rattle.line.specs.declared.fitting.FieldsRead.{FieldsRead}
+use Rattle.text.proofs.ScanLaws.{part_all}
+use Rattle.text.specs.Digits.{field_text}
+use Rattle.line.specs.Fields.{value_as, next_text, FieldLeft, FieldAs, FieldWrong, missing, differs}
+use Rattle.line.specs.Fitting.{values_of, line_fields}
+use Rattle.line.proofs.FieldLaws.{line_from, later, this}
 
 -- ---- values in front of those that are fitted
 
@@ -119,154 +118,99 @@ module _ {ks : List Kind} {at stop : ℕ} {l done : List ℕ} {i : ℕ} (s : ℕ
         let n : s ≡ stop = omega (arith, start_most i stop l h) in
         ap fits (sym (append-nil done)) ∙ (rw (no_field i stop s l h e n (i - at + 1)) at f.same)
 
--- ---- the loop's numbers and names
+-- ---- a line by itself
 
-module _ (ks : List Kind) (numbers names : List ℕ) (k a b : ℕ) where
+whole : (l : List ℕ) → line_fields 0 (length l) l ≡ fields_of l
+whole l = ap fields_of (part_all 0 l)
+
+-- what stands of a whole line, from its first byte on
+module _ (ks : List Kind) (l : List ℕ) where
+  line_told : {x : Fitted} → x ≡ fit (length l - 0 + 1) ks (line_fields 0 (length l) l) → x ≡ fit (length l + 1) ks (fields_of l)
+  line_told e = let n : length l - 0 ≡ length l = omega arith in rw (n, whole l) at e
+
+pub line_start : (ks : List Kind) (l : List ℕ) → Fitting ks 0 (length l) l [] ks 0
+line_start ks l = fitting_start ks 0 (length l) l (line_from (omega arith))
+
+module _ {ks : List Kind} {l done : List ℕ} {i : ℕ} where
+  module _ {k : Kind} {rest : List Kind} (f : Fitting ks 0 (length l) l done (k ∷ rest) i) where
+    pub line_more : {v e : ℕ} → FieldAs k i l v e → Fitting ks 0 (length l) l (done ++ (v ∷ [])) rest e
+    line_more a = rw a.ends (fitting_step a.start a.starts.found f a.starts.inside _ refl a.reads)
+
+    pub line_wrong : {g : Fault} → FieldWrong k i l g → misfit g ≡ fit (length l + 1) ks (fields_of l)
+    line_wrong (missing n) =
+        ap misfit n.told ∙ (let m : length l - 0 ≡ length l = omega arith in rw (m, whole l) at (fitting_few _ refl f n.found))
+    line_wrong (differs d) =
+        rw (← d.column) at (line_told ks l (let m : d.start - 0 ≡ d.start = omega arith in rw m at (fitting_wrong d.start d.starts.found f d.starts.inside _ refl d.reads)))
+
+  module _ (f : Fitting ks 0 (length l) l done [] i) where
+    pub line_many : {g : Fault} → FieldLeft i l g → misfit g ≡ fit (length l + 1) ks (fields_of l)
+    line_many n =
+        ap misfit n.told
+        ∙ line_told ks l (let m : n.column - 0 ≡ n.column = omega arith in rw m at (fitting_many n.column n.starts.found f n.starts.inside))
+
+    pub line_end : field_start i (length l) l ≡ length l → fits done ≡ fit (length l + 1) ks (fields_of l)
+    line_end n = line_told ks l (fitting_end (length l) (sym n) f (omega arith))
+
+-- ---- the loop's numbers
+
+module _ (ks : List Kind) (fs : List Field) (ns : List ℕ) (k n : ℕ) where
   -- what stands at k does not count among the first values
-  values_kept : (m : ℕ) → m ≤ k → values_of m ks (set numbers k a) (set names k b) ≡ values_of m ks numbers names
+  values_kept : (m : ℕ) → m ≤ k → values_of m ks fs (set ns k n) ≡ values_of m ks fs ns
   unfolding values_of
   values_kept zero h = refl
-  values_kept (suc m) h =
-      rw (values_kept m (omega arith), get_or-set_other numbers k m a 0 (λ e. omega arith), get_or-set_other names k m b 0 (λ e. omega arith))
+  values_kept (suc m) h = rw (values_kept m (omega arith), get_or-set_other ns k m n 0 (λ e. omega arith))
 
-  values_more : k < length numbers → k < length names →
-      values_of (suc k) ks (set numbers k a) (set names k b) ≡ values_of k ks numbers names ++ (value_as (get_or ks k Anything) a b ∷ [])
+  values_more : k < length ns → values_of (suc k) ks fs (set ns k n) ≡ values_of k ks fs ns ++ (value_as (get_or ks k Anything) (text_at fs k) n ∷ [])
   unfolding values_of
-  values_more h g = rw (values_kept k (omega arith), get_or-set_same numbers k a 0 h, get_or-set_same names k b 0 g)
+  values_more h = rw (values_kept k (omega arith), get_or-set_same ns k n 0 h)
 
--- the kind of a letter that is there
-kind_at : (kinds : List ℕ) (k : ℕ) → k < length kinds → get_or (map kind_of kinds) k Anything ≡ kind_of (nth kinds k)
-kind_at [] k h = absurd (omega arith)
-kind_at (x ∷ xs) zero h = refl
-kind_at (x ∷ xs) (suc k) h = kind_at xs k (omega arith)
+-- k fields are read, and the other kinds are left
+pub record Kept (ks : List Kind) (l ns : List ℕ) (i k : ℕ) : Type 0 where
+  pub within : i ≤ length l
+  pub size : length ns ≡ 8
+  pub fitting : Fitting ks 0 (length l) l (values_of k ks (fields_of l) ns) (drop k ks) i
+  pub column : ℕ
+  pub texts : (m : ℕ) → text_at (fields_of l) (k + m) ≡ text_at (fields_from column (part i (length l) l)) m
 
--- ---- the letters of a number
-
--- these are the bytes of n, the lowest first, up to the last that is not 0
-pub Bytes : List ℕ → ℕ → Type 0
-Bytes [] n = n ≡ 0
-Bytes (x ∷ xs) n = (x ≡ n % 256) × ((n ≡ 0 → ⊥) × Bytes xs (n / 256))
-
--- the letters are no more than asked for
-letters_few : (most n : ℕ) → length (letters_up_to most n) ≤ most
-unfolding letters_up_to
-letters_few zero n = omega arith
-letters_few (suc most) n = go (eqb n 0) (letters_up_to most (n / 256)) (letters_few most (n / 256))
-  where
-    go : (b : Bool) (xs : List ℕ) → length xs ≤ most → length (cond b [] (n % 256 ∷ xs)) ≤ suc most
-    go true xs h = omega arith
-    go false xs h = omega arith
-
--- and they are the bytes of n where it has no more
-letters_are : (most n : ℕ) → n < 256 ^ most → Bytes (letters_up_to most n) n
-unfolding letters_up_to Bytes
-letters_are zero n h = omega arith
-letters_are (suc most) n h = go (eqb n 0) refl (letters_up_to most (n / 256)) (letters_are most (n / 256) (omega arith))
-  where
-    go : (b : Bool) → eqb n 0 ≡ b → (xs : List ℕ) → Bytes xs (n / 256) → Bytes (cond b [] (n % 256 ∷ xs)) n
-    go true p xs h = eqb-true n 0 p
-    go false p xs h = (refl, (eqb-false n 0 p, h))
-
--- some letters are left where the number is not 0
-bytes_some : (kinds : List ℕ) (k : ℕ) {n : ℕ} → Bytes (drop k kinds) n → (n ≡ 0 → ⊥) → k < length kinds
-unfolding Bytes
-bytes_some [] zero b h = absurd (h b)
-bytes_some [] (suc k) b h = absurd (h b)
-bytes_some (x ∷ xs) zero b h = omega arith
-bytes_some (x ∷ xs) (suc k) b h = suc-le-suc (bytes_some xs k b h)
-
--- and none where it is
-bytes_none : (kinds : List ℕ) (k : ℕ) {n : ℕ} → Bytes (drop k kinds) n → n ≡ 0 → length kinds ≤ k
-unfolding Bytes
-bytes_none [] k b h = omega arith
-bytes_none (x ∷ xs) zero b h = absurd (b.1.0 h)
-bytes_none (x ∷ xs) (suc k) b h = suc-le-suc (bytes_none xs k b h)
-
--- ---- the loop's invariant
-
--- k fields are read, and the letters of the others are left
-pub record Kept (kinds : List ℕ) (at stop : ℕ) (l numbers names : List ℕ) (i k left : ℕ) : Type 0 where
-  pub most : k ≤ length kinds
-  pub few : length kinds ≤ 8
-  pub numbers_size : length numbers ≡ 8
-  pub names_size : length names ≡ 8
-  pub others : Bytes (drop k kinds) left
-  pub fitting : Fitting (map kind_of kinds) at stop l (values_of k (map kind_of kinds) numbers names) (map kind_of (drop k kinds)) i
-
-pub kept_start : (n at stop : ℕ) (l numbers names : List ℕ) → n < 2 ^ 64 → InFile at stop l → length numbers ≡ 8 →
-    length names ≡ 8 → Kept (letters_in n) at stop l numbers names at 0 n
-unfolding values_of letters_in
-kept_start n at stop l numbers names b h e g =
+pub kept_start : (ks : List Kind) (l ns : List ℕ) → length ns ≡ 8 → Kept ks l ns 0 0
+unfolding values_of fields_of
+kept_start ks l ns n =
     record {
-      most = omega arith;
-      few = letters_few 8 n;
-      numbers_size = e;
-      names_size = g;
-      others = letters_are 8 n b;
-      fitting = fitting_start (map kind_of (letters_in n)) at stop l h;
+      within = omega arith;
+      size = n;
+      fitting = line_start ks l;
+      column = 1;
+      texts =
+          λ m. let z : 0 + m ≡ m = omega arith in
+          rw (z, part_all 0 l) refl;
     }
 
-as_misfit : (ks : List Kind) {j : FaultKind} {c : ℕ} {r : FieldsRead} → Misfit j c r → as_fitted ks r ≡ misfit (fault j c)
-unfolding as_fitted
-as_misfit ks m = rw (m.fits_not, m.fault_is)
+module _ {ks : List Kind} {l ns : List ℕ} {i k : ℕ} (q : Kept ks l ns i k) where
+  module _ (d : Kind) (h : k < length ks) where
+    next : Fitting ks 0 (length l) l (values_of k ks (fields_of l) ns) (get_or ks k d ∷ drop (suc k) ks) i
+    next = rw (drop-cons ks k d h) at q.fitting
 
-module _ {kinds : List ℕ} {at stop : ℕ} {l numbers names : List ℕ} {i k left : ℕ} (q : Kept kinds at stop l numbers names i k left) where
-  abbrev Fits : FieldsRead → Type 0
-  Fits r = as_fitted (map kind_of kinds) r ≡ fit_line (map kind_of kinds) at stop l
+    pub kept_wrong : {f : Fault} → FieldWrong (get_or ks k d) i l f → misfit f ≡ fit (length l + 1) ks (fields_of l)
+    kept_wrong w = line_wrong next w
 
-  module _ (h : left ≡ 0 → ⊥) where
-    more : k < length kinds
-    more = bytes_some kinds k q.others h
+    pub kept_step : (n : ℕ) {e : ℕ} → k < 8 → FieldAs (get_or ks k d) i l (value_as (get_or ks k d) (next_text i l) n) e → Kept ks l (set ns k n) e (k + 1)
+    kept_step n {e} g a =
+        let z : k + 0 ≡ k = omega arith in
+        let t : text_at (fields_of l) k ≡ next_text i l = rw z at (q.texts 0) ∙ this q.within a q.column ∙ ap (λ (s : ℕ). field_text s (length l) l) a.starts.found in
+        record {
+          within = a.most;
+          size = length-set ns k n ∙ q.size;
+          fitting = rw (add-one, values_more ks (fields_of l) ns k n (omega (arith, q.size)), get_or_default ks k Anything d h, t) (line_more next a);
+          column = q.column + (e - i);
+          texts = λ m. let y : k + 1 + m ≡ k + suc m = omega arith in rw y (q.texts (suc m) ∙ later q.within a q.column m);
+        }
 
-    -- there is room for another
-    pub kept_room : k < 8
-    kept_room = omega (arith, more, q.few)
+  module _ (h : length ks ≤ k) where
+    last : Fitting ks 0 (length l) l (values_of k ks (fields_of l) ns) [] i
+    last = rw (drop_of_length-le ks h) at q.fitting
 
-    these : Bytes (nth kinds k ∷ drop (suc k) kinds) left
-    these = rw (drop-cons kinds k 0 more) at q.others
+    pub kept_many : {f : Fault} → FieldLeft i l f → misfit f ≡ fit (length l + 1) ks (fields_of l)
+    kept_many n = line_many last n
 
-    letter : nth kinds k ≡ left % 256
-    unfolding Bytes
-    letter = these.0
-
-    module _ {s : ℕ} (e : s ≡ field_start i stop l) where
-      next : Fitting (map kind_of kinds) at stop l (values_of k (map kind_of kinds) numbers names) (kind_of (left % 256) ∷ map kind_of (drop (suc k) kinds)) i
-      next = rw (drop-cons kinds k 0 more, letter) at q.fitting
-
-      pub kept_few : s ≡ stop → {r : FieldsRead} → Misfit FieldCount (stop - at + 1) r → Fits r
-      unfolding fit_line
-      kept_few g m = as_misfit (map kind_of kinds) m ∙ fitting_few s e next g
-
-      module _ (g : s < stop) {t : List ℕ} (b : t ≡ part (field_start s stop l) (field_stop s stop l) l)
-          {f : FieldRead} (a : as_held (kind_of (left % 256)) f ≡ read_field (kind_of (left % 256)) t) where
-        pub kept_wrong : {j : FaultKind} → f ≡ Wrong j → {r : FieldsRead} → Misfit j (s - at + 1) r → Fits r
-        unfolding as_held fit_line
-        kept_wrong w m = as_misfit (map kind_of kinds) m ∙ fitting_wrong s e next g t b (rw w at a)
-
-        pub kept_step : {x y : ℕ} → f ≡ Value x y →
-            Kept kinds at stop l (set numbers k x) (set names k y) (s + length t) (k + 1) (left / 256)
-        unfolding as_held Bytes
-        kept_step {x} {y} v =
-            record {
-              most = omega (arith, more);
-              few = q.few;
-              numbers_size = length-set numbers k x ∙ q.numbers_size;
-              names_size = length-set names k y ∙ q.names_size;
-              others = rw add-one these.1.1;
-              fitting = rw (add-one, values_more (map kind_of kinds) numbers names k x y (omega (arith, q.numbers_size, kept_room)) (omega (arith, q.names_size, kept_room)), kind_at kinds k more, letter) (fitting_step s e next g t b (rw v at a));
-            }
-
-  module _ (h : left ≡ 0) {s : ℕ} (e : s ≡ field_start i stop l) where
-    last : Fitting (map kind_of kinds) at stop l (values_of (length (map kind_of kinds)) (map kind_of kinds) numbers names) [] i
-    last =
-        let none = bytes_none kinds k q.others h in
-        let m : k ≡ length (map kind_of kinds) = omega (arith, none, q.most, length-map kinds kind_of) in
-        rw (drop_of_length-le kinds none, m) at q.fitting
-
-    pub kept_many : s < stop → {r : FieldsRead} → Misfit FieldCount (s - at + 1) r → Fits r
-    unfolding fit_line
-    kept_many g m = as_misfit (map kind_of kinds) m ∙ fitting_many s e last g
-
-    pub kept_end : stop ≤ s → (j : Fault) → Fits (record { fits = true; fault = j; numbers = numbers; names = names })
-    unfolding as_fitted fit_line
-    kept_end g j = fitting_end s e last g
+    pub kept_end : k ≤ length ks → field_start i (length l) l ≡ length l → fits (values_of (length ks) ks (fields_of l) ns) ≡ fit (length l + 1) ks (fields_of l)
+    kept_end g n = let m : k ≡ length ks = omega arith in rw m at (line_end last n)

@@ -1,9 +1,7 @@
 -- Laws that the proofs here and those of the crates above cite.
-pub mod KindLaws
+pub mod FieldLaws
 pub mod FitLaws
-pub mod ShapeLaws
-pub mod HeaderLaws
 pub mod PeekLaws
 pub mod RecordLaws
-pub mod AnswerLaws
 pub mod NamedLaws
+pub mod AnswerLaws

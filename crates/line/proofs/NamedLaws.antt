@@ -1,125 +1,130 @@
--- Records that begin with a name: fields that were read one after the other are the line's, and fit its shape.
+-- Entries: fields that were read one after the other are the line's, and fit its shape, which its third field tells.
 -- Assumes nothing.
-use Prim.Native.Nat.{ℕ, suc, ◌+◌, ◌-◌, ◌≤◌}
+use Prim.Native.Nat.{ℕ, ◌+◌, ◌≤◌}
 use native.Mathlib.Omega.{arith}
-use mathlib.Core.Bool.{Bool, true, false, true≢false}
-use mathlib.Core.List.{List, [], ◌∷◌, ◌++◌}
-use mathlib.Core.Option.{Option, some}
-use mathlib.Core.Path.{◌≡◌, refl, sym, ap, subst, ◌∙◌}
+use mathlib.Core.Bool.{Bool, true, false, true≢false, cond}
+use mathlib.Core.List.{List, [], ◌∷◌}
+use mathlib.Core.Option.{Option, none, some}
+use mathlib.Core.Path.{◌≡◌, refl, sym, ap, ◌∙◌}
 use lib.ListN.{length}
-use Rattle.rules.specs.Text.{Field, fields_from, fields_of, number_of, name_of}
-use Rattle.rules.specs.Line.{number, value, read_field, said, read_as, read_as_over, record_shape, external, entry, is_one, text_at, entry_shape}
+use Rattle.rules.specs.Text.{fields_from, fields_of, number_of, between}
+use Rattle.rules.specs.Line.{number, value, wrong, held, in_bounds, read_field, read_field_over, misfit, fit, said, read_as, read_as_over, record_shape, absolute_entry, relocated_entry, entry, is_one, text_at, entry_shape}
+use Rattle.rules.specs.declared.line.Fault.{Fault}
+use Rattle.rules.specs.declared.line.FaultKind.{FaultKind}
 use Rattle.rules.specs.declared.line.FaultKind.TheVariants.{BadNumber, BadType}
 use Rattle.rules.specs.declared.line.Kind.{Kind}
 use Rattle.rules.specs.declared.line.Kind.TheVariants.{Number, Name}
-use Rattle.rules.specs.declared.line.LineAnswer.TheVariants.{Mentioned, Entered}
-use Rattle.rules.proofs.NameLaws.{number_bound}
-use Rattle.text.specs.Scan.{part, InFile, Found}
+use Rattle.rules.specs.declared.line.LineAnswer.TheVariants.{Bad, Entered}
 use Rattle.text.specs.FieldBounds.{field_start}
 use Rattle.text.specs.Digits.{field_text}
-use Rattle.text.specs.declared.numbers.Number.TheVariants.{Value}
-use Rattle.text.specs.declared.names.Name.TheVariants.{Packed}
-use Rattle.text.proofs.FieldLaws.{FieldFound, field_found}
-use Rattle.line.specs.Fitting.{line_fields, end_column}
-use Rattle.line.specs.Named.{FieldAs}
-use Rattle.line.proofs.KindLaws.{number_yes, name_yes}
-use Rattle.line.proofs.FitLaws.{Fitting, fitting_start, fitting_step, fitting_end}
-use Rattle.line.proofs.PeekLaws.{passed}
+use Rattle.text.proofs.ScanLaws.{part_all}
+use Rattle.rules.proofs.TestLaws.{between_high}
+use Rattle.line.specs.Fields.{FieldLeft, FieldAs, FieldWrong}
+use Rattle.line.proofs.FieldLaws.{later, this}
+use Rattle.line.proofs.FitLaws.{Fitting, line_start, line_more, line_wrong, line_many, line_end}
 
 -- what is declined promises nothing
 pub declined : {A : Type 0} {b : Bool} → b ≡ false → b ≡ true → A
 declined e f = absurd (true≢false (sym f ∙ e))
 
--- ---- one field
+-- ---- the type
 
-pub field_as :
-    {read : List ℕ → Option ℕ} {i stop start : ℕ} {l : List ℕ} → Found i stop (field_start i stop l) start → (start ≡ stop → ⊥)
-    → {t : List ℕ} → t ≡ field_text start stop l → {v : ℕ} → read t ≡ some v → {e : ℕ} → e ≡ start + length t → FieldAs read i stop l v e
-field_as {read} {i} {stop} {start} f n b r k =
-    record {
-      start = start;
-      found = f.is;
-      inside = omega (arith, f.most);
-      reads = ap read (sym b) ∙ r;
-      ends = k ∙ ap (λ (x : List ℕ). start + length x) b;
-    }
+-- a number that was taken is the field's
+number_is : (low high : ℕ) (j : FaultKind) (t : List ℕ) {v : ℕ} → value v ≡ read_field (Number low high j) t → number_of t ≡ some v
+unfolding read_field_over in_bounds held
+number_is low high j t {v} e = go (number_of t) e
+  where
+    go : (o : Option ℕ) → value v ≡ in_bounds low high j (held BadNumber o) → o ≡ some v
+    go none e = absurd (cc)
+    go (some n) e = bound (between low high n) e
+      where
+        bound : (b : Bool) → value v ≡ cond b (value n) (wrong j) → some n ≡ some v
+        bound true e = cc
+        bound false e = absurd (cc)
 
-module _ {read : List ℕ → Option ℕ} {i stop : ℕ} {l : List ℕ} {v e : ℕ} (h : InFile i stop l) (a : FieldAs read i stop l v e) where
-  found : FieldFound i stop a.start l (field_text a.start stop l)
-  found = field_found i stop a.start l h a.found a.inside _ refl
+-- and is within the bounds
+number_most : (low high : ℕ) (j : FaultKind) (t : List ℕ) {v : ℕ} → value v ≡ read_field (Number low high j) t → v ≤ high
+unfolding read_field_over in_bounds held
+number_most low high j t {v} e = go (number_of t) e
+  where
+    go : (o : Option ℕ) → value v ≡ in_bounds low high j (held BadNumber o) → v ≤ high
+    go none e = absurd (cc)
+    go (some n) e = bound (between low high n) refl e
+      where
+        bound : (b : Bool) → between low high n ≡ b → value v ≡ cond b (value n) (wrong j) → v ≤ high
+        bound true p e = let m : n ≡ v = cc in rw m at (between_high low high n p)
+        bound false p e = absurd (cc)
 
-  -- what stands behind it is within the line
-  pub behind_field : InFile e stop l
-  behind_field = record { order = omega (arith, a.ends, found.fits); size = h.size }
+abbrev type : Kind
+type = Number 0 1 BadType
 
-  -- the texts of the fields behind it
-  later : (c k : ℕ) → text_at (fields_from c (part i stop l)) (suc k) ≡ text_at (fields_from (c + (e - i)) (part e stop l)) k
-  later c k =
-      subst (λ (x : ℕ). text_at (fields_from c (part i stop l)) (suc k) ≡ text_at (fields_from (c + (x - i)) (part x stop l)) k) (sym a.ends)
-      ((passed i stop a.start l h a.found _ refl).texts c k)
+-- ---- what an entry says
 
-  this : (c : ℕ) → text_at (fields_from c (part i stop l)) 0 ≡ field_text a.start stop l
-  unfolding text_at
-  this c = ap (λ (fs : List Field). text_at fs 0) (found.anywhere c)
+pub type_most : {i : ℕ} {l : List ℕ} {t e : ℕ} → FieldAs type i l t e → t ≤ 1
+type_most a = number_most 0 1 BadType _ a.reads
 
--- one field more fits
-module _ {read : List ℕ → Option ℕ} {ks : List Kind} {at stop : ℕ} {l done : List ℕ} {k : Kind} {rest : List Kind} {i v e : ℕ}
-    (f : Fitting ks at stop l done (k ∷ rest) i) (a : FieldAs read i stop l v e) where
-  fits_more : value v ≡ read_field k (field_text a.start stop l) → Fitting ks at stop l (done ++ (v ∷ [])) rest e
-  fits_more w =
-      subst (Fitting ks at stop l (done ++ (v ∷ [])) rest) (sym a.ends) (fitting_step a.start a.found f a.inside _ refl w)
+module _ (l : List ℕ) where
+  -- whatever its type, the line is at fault
+  pub entry_wrong : {f : Fault} → ((rest : List Kind) → misfit f ≡ fit (length l + 1) (Name ∷ number ∷ type ∷ rest) (fields_of l))
+      → Bad f ≡ read_as (entry_shape (fields_of l)) (length l + 1) (fields_of l)
+  unfolding entry_shape read_as_over record_shape said
+  entry_wrong {f} h = go (is_one (number_of (text_at (fields_of l) 2)))
+    where
+      go : (b : Bool) → Bad f ≡ read_as (record_shape (cond b relocated_entry absolute_entry)) (length l + 1) (fields_of l)
+      go true = rw (← (h (number ∷ [])))
+      go false = rw (← (h []))
 
-module _ {i stop : ℕ} {l : List ℕ} {v e : ℕ} where
-  as_name : (a : FieldAs name_of i stop l v e) → value v ≡ read_field Name (field_text a.start stop l)
-  as_name a = name_yes (field_text a.start stop l) {r = Packed v} (sym a.reads) refl
+module _ {l : List ℕ} where
+  -- a line that begins with a name
+  one : {n e : ℕ} → FieldAs Name 0 l n e → (rest : List Kind) → Fitting (Name ∷ rest) 0 (length l) l (n ∷ []) rest e
+  one a rest = line_more (line_start (Name ∷ rest) l) a
 
-  as_number : (a : FieldAs number_of i stop l v e) → value v ≡ read_field number (field_text a.start stop l)
-  as_number a =
-      number_yes 0 65535 BadNumber (field_text a.start stop l) {r = Value v} (sym a.reads) refl (omega arith)
-      (number_bound (field_text a.start stop l) v a.reads)
+  pub name_wrong : {f : Fault} → FieldWrong Name 0 l f → Bad f ≡ read_as (entry_shape (fields_of l)) (length l + 1) (fields_of l)
+  name_wrong w = entry_wrong l (λ rest. line_wrong (line_start (Name ∷ number ∷ type ∷ rest) l) w)
 
-  as_type : (a : FieldAs number_of i stop l v e) → v ≤ 1 → value v ≡ read_field (Number 0 1 BadType) (field_text a.start stop l)
-  as_type a m = number_yes 0 1 BadType (field_text a.start stop l) {r = Value v} (sym a.reads) refl (omega arith) m
+  module _ {n e : ℕ} (a : FieldAs Name 0 l n e) where
+    pub value_wrong : {f : Fault} → FieldWrong number e l f → Bad f ≡ read_as (entry_shape (fields_of l)) (length l + 1) (fields_of l)
+    value_wrong w = entry_wrong l (λ rest. line_wrong (one a (number ∷ type ∷ rest)) w)
 
--- ---- the records
+    module _ {v f : ℕ} (b : FieldAs number e l v f) where
+      pub type_wrong : {g : Fault} → FieldWrong type f l g → Bad g ≡ read_as (entry_shape (fields_of l)) (length l + 1) (fields_of l)
+      type_wrong w = entry_wrong l (λ rest. line_wrong (line_more (one a (number ∷ type ∷ rest)) b) w)
 
-module _ {at stop : ℕ} {l : List ℕ} (h : InFile at stop l) {n e : ℕ} (a : FieldAs name_of at stop l n e) where
-  pub external_says :
-      {s : ℕ} → s ≡ field_start e stop l → stop ≤ s
-      → Mentioned n ≡ read_as (record_shape external) (end_column at stop) (line_fields at stop l)
-  unfolding read_as_over record_shape said
-  external_says {s} f g =
-      rw (← (fitting_end s f (fits_more (fitting_start (record_shape external).kinds at stop l h) a (as_name a)) g))
+      module _ {t g : ℕ} (c : FieldAs type f l t g) where
+        third : text_at (fields_of l) 2 ≡ field_text c.start (length l) l
+        unfolding fields_of
+        third =
+            ap (λ (x : List ℕ). text_at (fields_from 1 x) 2) (sym (part_all 0 l))
+            ∙ later (omega arith) a 1 1
+            ∙ later a.most b _ 0
+            ∙ this b.most c _
 
-  module _ {v f : ℕ} (b : FieldAs number_of e stop l v f) {t g : ℕ} (c : FieldAs number_of f stop l t g) where
-    third : text_at (line_fields at stop l) 2 ≡ field_text c.start stop l
-    unfolding fields_of
-    third =
-        later h a 1 1
-        ∙ later (behind_field h a) b _ 0
-        ∙ this (behind_field (behind_field h a) b) c _
+        -- the type as the third field
+        typed : is_one (number_of (text_at (fields_of l) 2)) ≡ is_one (some t)
+        typed = ap is_one (ap number_of third ∙ number_is 0 1 BadType _ c.reads)
 
-    -- the type as the third field
-    typed : is_one (number_of (text_at (line_fields at stop l) 2)) ≡ is_one (some t)
-    typed = ap is_one (ap number_of third ∙ c.reads)
+        three : (rest : List Kind) → Fitting (Name ∷ number ∷ type ∷ rest) 0 (length l) l (n ∷ v ∷ t ∷ []) rest g
+        three rest = line_more (line_more (one a (number ∷ type ∷ rest)) b) c
 
-    -- a name, a number and a type fit
-    three : (rest : List Kind) → t ≤ 1 → Fitting (Name ∷ number ∷ Number 0 1 BadType ∷ rest) at stop l (n ∷ v ∷ t ∷ []) rest g
-    three rest m =
-        fits_more
-        (fits_more (fits_more (fitting_start (Name ∷ number ∷ Number 0 1 BadType ∷ rest) at stop l h) a (as_name a)) b (as_number b))
-        c (as_type c m)
+        pub absolute_many : {x : Fault} → FieldLeft g l x → t ≡ 0 → Bad x ≡ read_as (entry_shape (fields_of l)) (length l + 1) (fields_of l)
+        unfolding read_as_over record_shape entry_shape said is_one
+        absolute_many m z = rw (typed, z, ← (line_many (three []) m))
 
-    abbrev Says : ℕ → Bool → ℕ → Type 0
-    Says x r p = Entered (entry n x r p) ≡ read_as (entry_shape (line_fields at stop l)) (end_column at stop) (line_fields at stop l)
+        pub absolute_says : field_start g (length l) l ≡ length l → t ≡ 0
+            → Entered (entry n v false 0) ≡ read_as (entry_shape (fields_of l)) (length l + 1) (fields_of l)
+        unfolding read_as_over record_shape entry_shape said is_one
+        absolute_says m z = rw (typed, z, ← (line_end (three []) m))
 
-    pub absolute_says : t ≡ 0 → {s : ℕ} → s ≡ field_start g stop l → stop ≤ s → Says v false 0
-    unfolding read_as_over record_shape entry_shape said is_one
-    absolute_says z {s} p q =
-        rw (typed, z, ← (fitting_end s p (three [] (omega arith)) q))
+        pub parameters_wrong : {x : Fault} → FieldWrong number g l x → t ≡ 1 → Bad x ≡ read_as (entry_shape (fields_of l)) (length l + 1) (fields_of l)
+        unfolding read_as_over record_shape entry_shape said is_one
+        parameters_wrong w z = rw (typed, z, ← (line_wrong (three (number ∷ [])) w))
 
-    pub relocated_says :
-        t ≡ 1 → {x k : ℕ} → FieldAs number_of g stop l x k → {s : ℕ} → s ≡ field_start k stop l → stop ≤ s → Says v true x
-    unfolding read_as_over record_shape entry_shape said is_one
-    relocated_says z d {s} p q =
-        rw (typed, z, ← (fitting_end s p (fits_more (three (number ∷ []) (omega arith)) d (as_number d)) q))
+        module _ {p s : ℕ} (d : FieldAs number g l p s) where
+          pub relocated_many : {x : Fault} → FieldLeft s l x → t ≡ 1 → Bad x ≡ read_as (entry_shape (fields_of l)) (length l + 1) (fields_of l)
+          unfolding read_as_over record_shape entry_shape said is_one
+          relocated_many m z = rw (typed, z, ← (line_many (line_more (three (number ∷ [])) d) m))
+
+          pub relocated_says : field_start s (length l) l ≡ length l → t ≡ 1
+              → Entered (entry n v true p) ≡ read_as (entry_shape (fields_of l)) (length l + 1) (fields_of l)
+          unfolding read_as_over record_shape entry_shape said is_one
+          relocated_says m z = rw (typed, z, ← (line_end (line_more (three (number ∷ [])) d) m))

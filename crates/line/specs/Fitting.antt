@@ -1,76 +1,50 @@
--- What is read of fields, as the rules have it. The code keeps numbers and names apart, by their types; the rules keep one list of values.
-use Rattle.std.specs.Prelude.{ℕ, zero, suc, ◌+◌, ◌-◌, ◌/◌, ◌%◌, ◌≤◌, false, cond, List, [], ◌∷◌, ◌++◌, ◌≡◌, length, get_or, eqb}
-use Rattle.rules.specs.Text.{Field, fields_from, fields_of}
-use Rattle.rules.specs.Line.{nth, number, Held, value, wrong, Fitted, fits, misfit, fault, fit, text_at}
-use Rattle.rules.specs.declared.line.FaultKind.{FaultKind}
-use Rattle.rules.specs.declared.line.FaultKind.TheVariants.{BadNumber, BadType}
+-- What is read of the fields of a line, as the rules have it.
+use Rattle.std.specs.Prelude.{ℕ, zero, suc, ◌+◌, ◌-◌, List, [], ◌∷◌, ◌++◌, ◌≡◌, length, get_or, Result, Ok, Err}
+use Rattle.std.proofs.Math.Option.{Option, none, some}
+use Rattle.rules.specs.Text.{Field, fields_of}
+use Rattle.rules.specs.Line.{Fitted, fits, misfit, fit, Shape, read_as, nth, text_at}
+use Rattle.rules.specs.declared.line.Fault.{Fault}
 use Rattle.rules.specs.declared.line.Kind.{Kind}
-use Rattle.rules.specs.declared.line.Kind.TheVariants.{Number, Name, Anything, Marker}
+use Rattle.rules.specs.declared.line.Kind.TheVariants.{Name, Anything}
+use Rattle.rules.specs.declared.line.Header.{Header}
+use Rattle.rules.specs.declared.line.LineAnswer.{LineAnswer}
+use Rattle.rules.specs.declared.line.LineAnswer.TheVariants.{Bad, Head}
 use Rattle.text.specs.Scan.{part}
-use Rattle.line.specs.declared.fields.FieldRead.{FieldRead}
-use Rattle.line.specs.declared.fields.FieldRead.TheVariants.{Value, Wrong}
-use Rattle.line.specs.declared.fitting.FieldsRead.{FieldsRead}
+use Rattle.line.specs.Fields.{value_as}
 
--- the value of a field of that kind, of which this number and this name were read
-abbrev pub value_as : Kind → ℕ → ℕ → ℕ
-value_as (Number low high j) number name = number
-value_as Name number name = name
-value_as Anything number name = 0
-value_as (Marker c) number name = 0
-
--- the kinds, by the letters that the code gives them; a capital letter is the marker of the block that many letters after A
-unfoldable pub kind_of : ℕ → Kind
-kind_of k =
-    cond (eqb k 46) Anything
-    (cond (eqb k 110) number
-    (cond (eqb k 120) Name
-    (cond (eqb k 48) (Number 0 0 BadType)
-    (cond (eqb k 114) (Number 1 5 BadType)
-    (cond (eqb k 116) (Number 0 1 BadType)
-    (cond (eqb k 115) (Number 0 7 BadNumber) (Marker (k % 65))))))))
-
--- the bytes of n, the lowest first, up to the last that is not 0, and at most that many
-unfoldable pub letters_up_to : ℕ → ℕ → List ℕ
-letters_up_to zero n = []
-letters_up_to (suc most) n = cond (eqb n 0) [] (n % 256 ∷ letters_up_to most (n / 256))
-
--- the letters of a line's kinds, which the code keeps in one number: the first field's is its lowest byte
-unfoldable pub letters_in : ℕ → List ℕ
-letters_in n = letters_up_to 8 n
-
--- the answer of `read_field`
-unfoldable pub as_held : Kind → FieldRead → Held
-as_held k (Value number name) = value (value_as k number name)
-as_held k (Wrong j) = wrong j
-
--- the values of the first n fields of a line
-unfoldable pub values_of : ℕ → List Kind → List ℕ → List ℕ → List ℕ
-values_of zero ks numbers names = []
-values_of (suc k) ks numbers names =
-    values_of k ks numbers names ++ (value_as (get_or ks k Anything) (nth numbers k) (nth names k) ∷ [])
+-- the values of the first k fields of a line, with these numbers
+unfoldable pub values_of : ℕ → List Kind → List Field → List ℕ → List ℕ
+values_of zero ks fs ns = []
+values_of (suc k) ks fs ns = values_of k ks fs ns ++ (value_as (get_or ks k Anything) (text_at fs k) (nth ns k) ∷ [])
 
 -- the answer of `fit`
-unfoldable pub as_fitted : List Kind → FieldsRead → Fitted
-as_fitted ks r = cond r.fits (fits (values_of (length ks) ks r.numbers r.names)) (misfit r.fault)
+abbrev pub as_fitted : List Kind → List Field → Result (List ℕ) Fault → Fitted
+as_fitted ks fs (Ok ns) = fits (values_of (length ks) ks fs ns)
+as_fitted ks fs (Err f) = misfit f
 
-pub record Misfit (kind : FaultKind) (column : ℕ) (r : FieldsRead) : Type 0 where
-  pub fits_not : r.fits ≡ false
-  pub fault_is : r.fault ≡ fault kind column
+-- an answer, in which the rules count a fault
+abbrev pub answer_in : Result LineAnswer Fault → LineAnswer
+answer_in (Ok a) = a
+answer_in (Err f) = Bad f
 
--- the fields of the line from `at` to stop, and the column behind its last byte
+-- a header, as the line's answer
+abbrev pub header_in : Result Header Fault → LineAnswer
+header_in (Ok h) = Head h
+header_in (Err f) = Bad f
+
+-- what a line with a field says, read as one of a shape; no shape is a fault of its first field
+unfoldable pub shape_said : Option Shape → Fault → ℕ → List Field → LineAnswer
+shape_said none unknown end fs = Bad unknown
+shape_said (some s) unknown end fs = read_as s end fs
+
+-- the line's fields are a name alone, or have a fault
+abbrev pub name_said : ℕ → List Field → Result ℕ Fault → Type 0
+name_said end fs (Ok n) = fits (n ∷ []) ≡ fit end (Name ∷ []) fs
+name_said end fs (Err f) = misfit f ≡ fit end (Name ∷ []) fs
+
+-- the fields of the line from `at` to stop of a file, and the column behind its last byte
 abbrev pub line_fields : ℕ → ℕ → List ℕ → List Field
 line_fields at stop file = fields_of (part at stop file)
 
 abbrev pub end_column : ℕ → ℕ → ℕ
 end_column at stop = stop - at + 1
-
--- the same fields against kinds
-unfoldable pub fit_line : List Kind → ℕ → ℕ → List ℕ → Fitted
-fit_line ks at stop file = fit (end_column at stop) ks (line_fields at stop file)
-
--- r stands behind the first field of the text from i to stop, or at stop where it has none
-pub record FieldPassed (i stop : ℕ) (file : List ℕ) (r : ℕ) : Type 0 where
-  pub least : i ≤ r
-  pub most : r ≤ stop
-  pub texts : (c k : ℕ) →
-      text_at (fields_from c (part i stop file)) (suc k) ≡ text_at (fields_from (c + (r - i)) (part r stop file)) k

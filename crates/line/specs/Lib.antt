@@ -1,3 +1,2 @@
+pub mod Fields
 pub mod Fitting
-pub mod Shapes
-pub mod Named

@@ -1,75 +1,157 @@
 // A field against the kind that it has to be.
-ghost use Rattle.std.specs.Prelude.{◌≡◌};
-ghost use Rattle.rules.specs.declared.line.Kind.TheVariants.{Number as NumberKind, Name as NameKind, Marker as MarkerKind};
-ghost use Rattle.rules.specs.Line.{read_field};
-ghost use Rattle.line.specs.Fitting.{kind_of, as_held};
+ghost use Rattle.std.specs.Prelude.{◌≡◌, ◌+◌, ◌≤◌, ◌<◌, length};
+ghost use Rattle.rules.specs.declared.line.FaultKind.TheVariants.{BadNumber};
+ghost use Rattle.rules.specs.declared.line.Kind.TheVariants.{Number as NumberKind, Name as NameKind};
+ghost use Rattle.rules.specs.Line.{fault, read_field, in_bounds, held};
+ghost use Rattle.text.specs.Values.{value_in};
+ghost use Rattle.line.specs.Fields.{held_in, as_held, value_as, next_text, Starts, Ends, Reads};
 
-use rules::limits::{LARGEST_NUMBER, MOST_SUB_RECORDS};
-use rules::line::FaultKind;
+use rules::limits::LARGEST_NUMBER;
+use rules::line::{Fault, FaultKind, Kind};
+use text::fields::{field_from, field_start};
 use text::markers::is_marker;
-use text::names::{Name, read_name};
-use text::numbers::{Number, read_number};
+use text::names::read_name;
+use text::numbers::{field_number, read_number};
 
-const ANY_NUMBER: u16 = LARGEST_NUMBER as u16;
+const LARGEST: u16 = LARGEST_NUMBER as u16;
 
 // The highest relocation type, and the only one that refers to an external.
 pub const EXTERNAL_TYPE: u16 = 5;
 
-// What a field holds: a number, a name, or neither. What it does not hold is 0.
+pub const NUMBER: Kind = Kind::Number {
+    low: 0,
+    high: LARGEST,
+    outside: FaultKind::BadNumber,
+};
+
+// A field that is of its kind, as it was read, and where it ends.
 #[derive(Clone, Copy)]
-pub enum FieldRead {
-    Value { number: u16, name: u64 },
-    Wrong(FaultKind),
+pub struct FieldFrom<T> {
+    pub value: T,
+    pub end: usize,
 }
 
-fn number_field(field: &[u8], low: u16, high: u16, outside: FaultKind) -> FieldRead
-    ensures { as_held (NumberKind low high outside) result ≡ read_field (NumberKind low high outside) field.now }
+// A fault that is told at the byte at i, the first being in column 1.
+pub fn fault_at(kind: FaultKind, i: usize) -> Fault
+    requires { i < usize.MAX }
+    ensures { result ≡ fault kind (i + 1) }
 {
-    match read_number(field) {
-        Number::Value(number) => {
-            if number < low {
-                return FieldRead::Wrong(outside);
-            }
-            if high < number {
-                return FieldRead::Wrong(outside);
-            }
-            FieldRead::Value { number, name: 0 }
-        }
-        Number::NotANumber => FieldRead::Wrong(FaultKind::BadNumber),
+    Fault {
+        kind,
+        column: i + 1,
     }
 }
 
-fn name_field(field: &[u8]) -> FieldRead
-    ensures { as_held NameKind result ≡ read_field NameKind field.now }
+// A number, held to its bounds.
+#[tactic(auto, unfolding(rules::specs::Line::held, rules::specs::Line::in_bounds))]
+fn within(number: Option<u16>, low: u16, high: u16, outside: FaultKind) -> Result<u16, FaultKind>
+    ensures { held_in result ≡ in_bounds low high outside (held BadNumber (value_in number)) }
 {
-    match read_name(field) {
-        Name::Packed(name) => FieldRead::Value { number: 0, name },
-        Name::NotAName => FieldRead::Wrong(FaultKind::BadName),
+    match number {
+        Some(n) if low <= n && n <= high => Ok(n),
+        Some(_) => Err(outside),
+        None => Err(FaultKind::BadNumber),
     }
 }
 
-fn marker_field(field: &[u8], code: u16) -> FieldRead
-    ensures { as_held (MarkerKind code) result ≡ read_field (MarkerKind code) field.now }
-{
-    if is_marker(field, code) {
-        return FieldRead::Value { number: 0, name: 0 };
-    }
-    FieldRead::Wrong(FaultKind::BadMarker)
-}
-
-// A field's kind is a letter: . any text, n a number, x a name, 0 the number before a relocation's type, r that type,
-// t an entry's type, s a number of sub-records, A B C .. the markers of the blocks 0 1 2 ..
-pub fn read_field(field: &[u8], kind: u8) -> FieldRead
-    ensures { as_held (kind_of kind) result ≡ read_field (kind_of kind) field.now }
+// The number in a field that has to be of this kind, 0 where the kind is no number.
+#[tactic(auto, unfolding(rules::specs::Line::read_field_over, rules::specs::Line::held, crate::specs::Fields::name_value))]
+fn read_field(field: &[u8], kind: Kind) -> Result<u16, FaultKind>
+    ensures { as_held kind field.now result ≡ read_field kind field.now }
 {
     match kind {
-        b'.' => FieldRead::Value { number: 0, name: 0 },
-        b'n' => number_field(field, 0, ANY_NUMBER, FaultKind::BadNumber),
-        b'x' => name_field(field),
-        b'0' => number_field(field, 0, 0, FaultKind::BadType),
-        b'r' => number_field(field, 1, EXTERNAL_TYPE, FaultKind::BadType),
-        b't' => number_field(field, 0, 1, FaultKind::BadType),
-        b's' => number_field(field, 0, MOST_SUB_RECORDS, FaultKind::BadNumber),
-        _ => marker_field(field, kind as u16 % 65),
+        Kind::Number { low, high, outside } => within(read_number(field), low, high, outside),
+        Kind::Name if read_name(field).is_none() => Err(FaultKind::BadName),
+        Kind::Marker(code) if !is_marker(field, code) => Err(FaultKind::BadMarker),
+        _ => Ok(0),
     }
+}
+
+// Where the next field from i on starts. A field too few is told behind the line's last byte.
+fn start_of(line: &[u8], i: usize) -> Result<usize, Fault>
+    requires { i ≤ length line.now }
+    ensures { Starts i line.now result }
+{
+    let start = field_start(line, i);
+    if start == line.len() {
+        return Err(fault_at(FaultKind::FieldCount, line.len()));
+    }
+    Ok(start)
+}
+
+// There is no field from i on. A field too many is told where it starts.
+pub fn no_more(line: &[u8], i: usize) -> Result<(), Fault>
+    requires { i ≤ length line.now }
+    ensures { Ends i line.now result }
+{
+    let start = field_start(line, i);
+    if start < line.len() {
+        return Err(fault_at(FaultKind::FieldCount, start));
+    }
+    Ok(())
+}
+
+// The next field, of any kind.
+#[tactic(auto, using(text::proofs::FieldLaws::start_again))]
+pub fn field_at(line: &[u8], i: usize, kind: Kind) -> Result<FieldFrom<u16>, Fault>
+    requires { i ≤ length line.now }
+    ensures { Reads (value_as kind (next_text i line.now)) kind i line.now result }
+{
+    let start = start_of(line, i)?;
+    let field = field_from(line, start);
+    match read_field(field, kind) {
+        Ok(value) => Ok(FieldFrom {
+            value,
+            end: start + field.len(),
+        }),
+        Err(wrong) => Err(fault_at(wrong, start)),
+    }
+}
+
+// The next field as a name.
+#[tactic(auto, using(text::proofs::FieldLaws::start_again), unfolding(rules::specs::Line::read_field_over, rules::specs::Line::held))]
+pub fn name_at(line: &[u8], i: usize) -> Result<FieldFrom<u64>, Fault>
+    requires { i ≤ length line.now }
+    ensures { Reads (λ name. name) NameKind i line.now result }
+{
+    let start = start_of(line, i)?;
+    let field = field_from(line, start);
+    match read_name(field) {
+        Some(value) => Ok(FieldFrom {
+            value,
+            end: start + field.len(),
+        }),
+        None => Err(fault_at(FaultKind::BadName, start)),
+    }
+}
+
+// The next field as a number within bounds. Most are read in one pass.
+#[tactic(auto, unfolding(rules::specs::Line::read_field_over))]
+pub fn bounded_at(
+    line: &[u8],
+    i: usize,
+    low: u16,
+    high: u16,
+    outside: FaultKind,
+) -> Result<FieldFrom<u16>, Fault>
+    requires { i ≤ length line.now }
+    ensures { Reads (λ number. number) (NumberKind low high outside) i line.now result }
+{
+    let start = start_of(line, i)?;
+    let field = field_number(line, start);
+    match within(field.number, low, high, outside) {
+        Ok(value) => Ok(FieldFrom {
+            value,
+            end: field.end,
+        }),
+        Err(kind) => Err(fault_at(kind, start)),
+    }
+}
+
+// The next field as a number.
+pub fn number_at(line: &[u8], i: usize) -> Result<FieldFrom<u16>, Fault>
+    requires { i ≤ length line.now }
+    ensures { Reads (λ number. number) (NumberKind 0 65535 BadNumber) i line.now result }
+{
+    bounded_at(line, i, 0, LARGEST, FaultKind::BadNumber)
 }

@@ -1,39 +1,71 @@
 // The headers of blocks.
-ghost use Rattle.std.specs.Prelude.{◌≡◌};
-ghost use Rattle.rules.specs.Line.{row_of, line_of};
+ghost use Rattle.std.specs.Prelude.{◌≡◌, ◌+◌, length};
+ghost use Rattle.rules.specs.Text.{fields_of};
+ghost use Rattle.rules.specs.Line.{fault, row_of, header_shape_in, shape_for};
+ghost use Rattle.rules.specs.declared.line.FaultKind.TheVariants.{BadMarker};
 ghost use Rattle.rules.specs.declared.line.Expected.TheVariants.{AnyHeader};
-ghost use Rattle.text.specs.Scan.{InFile};
-ghost use Rattle.line.specs.Fitting.{end_column, line_fields};
-ghost use Rattle.line.specs.Shapes.{known};
+ghost use Rattle.line.specs.Fitting.{answer_in, header_in, shape_said};
+ghost use Rattle.line.specs.Fields.{StartsAt};
 
-use crate::fitting::bad;
-use crate::shapes::read_as;
-use rules::line::{FaultKind, LineAnswer};
-use text::fields::{field_start, next_field};
-use text::numbers::{Number, read_number};
+use crate::fields::{NUMBER, fault_at};
+use crate::fitting::fit;
+use rules::line::{Fault, FaultKind, Header, Kind, LineAnswer};
+use text::fields::next_field;
+use text::numbers::read_number;
 
-// Is there a block with this code?
-fn is_block(code: u16) -> bool
-    ensures { result ≡ known (row_of code) }
+// A header's code has told its shape already.
+const CODE: Kind = Kind::Anything;
+
+// The header of the block with this code. No block with it is a fault of the code.
+#[tactic(auto, unfolding(rules::specs::Line::row_of, rules::specs::Line::row_in, rules::specs::Line::headers, rules::specs::Line::read_as_over, rules::specs::Line::said, rules::specs::Line::header_shape_in, crate::specs::Fitting::shape_said, crate::specs::Fitting::values_of))]
+fn block_line(line: &[u8], code: u16, unknown: Fault) -> Result<Header, Fault>
+    ensures { header_in result ≡ shape_said (header_shape_in (row_of code)) unknown (length line.now + 1) (fields_of line.now) }
 {
-    code < 12 && code != 2
+    match code {
+        0 => {
+            let n = fit(line, &[CODE, NUMBER, NUMBER, Kind::Marker(0)])?;
+            Ok(Header::CodeBlock {
+                count: n[1],
+                offset: n[2],
+            })
+        }
+        1 => {
+            fit(line, &[CODE, Kind::Marker(1)])?;
+            Ok(Header::EndBlock)
+        }
+        3 => {
+            fit(line, &[CODE, Kind::Marker(3)])?;
+            Ok(Header::TitleBlock)
+        }
+        4 => Ok(Header::EntryBlock(fit(line, &[CODE, NUMBER, Kind::Marker(4)])?[1])),
+        5 => Ok(Header::ExternalBlock(fit(line, &[CODE, NUMBER, Kind::Marker(5)])?[1])),
+        6 => {
+            fit(line, &[CODE, Kind::Marker(6)])?;
+            Ok(Header::LibraryStart)
+        }
+        7 => {
+            fit(line, &[CODE, Kind::Marker(7)])?;
+            Ok(Header::LibraryEnd)
+        }
+        8 => {
+            let n = fit(line, &[CODE, NUMBER, Kind::Name, NUMBER, Kind::Marker(8)])?;
+            Ok(Header::DataBlock(n[1]))
+        }
+        9 => Ok(Header::InitBlock(fit(line, &[CODE, NUMBER, Kind::Marker(9)])?[1])),
+        10 => Ok(Header::ParameterBlock(fit(line, &[CODE, NUMBER, Kind::Marker(10)])?[1])),
+        11 => Ok(Header::EntryBlock(fit(line, &[CODE, NUMBER, Kind::Marker(11)])?[1])),
+        _ => Err(unknown),
+    }
 }
 
-pub fn header_line(file: &[u8], at: usize, stop: usize) -> LineAnswer
-    requires { InFile at stop file.now }
-    ensures { result ≡ line_of AnyHeader (end_column at stop) (line_fields at stop file.now) }
+// A header, whose code starts at `start`.
+pub fn header_line(line: &[u8], start: usize) -> Result<LineAnswer, Fault>
+    requires { StartsAt 0 line.now start }
+    ensures { answer_in result ≡ shape_said (shape_for AnyHeader (fields_of line.now)) (fault BadMarker (start + 1)) (length line.now + 1) (fields_of line.now) }
 {
-    let start = field_start(file, at, stop);
-    if start == stop {
-        return LineAnswer::Blank;
-    }
-    match read_number(next_field(file, start, stop)) {
-        Number::Value(code) => {
-            if is_block(code) {
-                return read_as(file, at, stop, code as usize);
-            }
-            bad(FaultKind::BadMarker, start - at + 1)
-        }
-        Number::NotANumber => bad(FaultKind::BadMarker, start - at + 1),
-    }
+    let unknown = fault_at(FaultKind::BadMarker, start);
+    let Some(code) = read_number(next_field(line, start)) else {
+        return Err(unknown);
+    };
+    Ok(LineAnswer::Head(block_line(line, code, unknown)?))
 }

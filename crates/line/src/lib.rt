@@ -1,19 +1,21 @@
 // What one line of an object file says, by what is expected of it.
 #![tactic(auto)]
 
-ghost use Rattle.std.specs.Prelude.{◌≡◌};
+ghost use Rattle.std.specs.Prelude.{◌≡◌, ◌+◌, length};
 ghost use Rattle.rules.specs.Limits.{longest_line};
-ghost use Rattle.rules.specs.Text.{legal_front};
-ghost use Rattle.rules.specs.Line.{line_of, test_bytes, line_answer};
-ghost use Rattle.text.specs.Scan.{part, InFile};
-ghost use Rattle.line.specs.Fitting.{end_column, line_fields};
+ghost use Rattle.rules.specs.Text.{legal_front, fields_of};
+ghost use Rattle.rules.specs.declared.line.FaultKind.TheVariants.{BadMarker};
+ghost use Rattle.rules.specs.Line.{fault, shape_for, line_of, test_bytes, line_answer};
+ghost use Rattle.line.specs.Fields.{StartsAt};
+ghost use Rattle.line.specs.Fitting.{answer_in, shape_said};
 
-use crate::fitting::bad;
+use crate::fields::{NUMBER, fault_at};
+use crate::fitting::fit;
 use crate::headers::header_line;
-use crate::named::{entry_line, external_line};
+use crate::named::{entry_line, name_alone};
 use crate::records::code_line;
-use crate::shapes::{CLOSING, DATA, INIT, OPENING, PARAMETER, SUB, read_as};
-use rules::line::{Expected, FaultKind, LineAnswer};
+use rules::limits::MOST_SUB_RECORDS;
+use rules::line::{Expected, Fault, FaultKind, Kind, LineAnswer};
 use text::fields::field_start;
 
 mod fields;
@@ -21,31 +23,59 @@ mod fitting;
 mod headers;
 mod named;
 mod records;
-mod shapes;
 
-// What the fields of the line say. A line with no field is skipped.
-fn fields_say(file: &[u8], at: usize, stop: usize, expected: Expected) -> LineAnswer
-    requires { InFile at stop file.now }
-    ensures { result ≡ line_of expected (end_column at stop) (line_fields at stop file.now) }
+// How many sub-records follow a parameter record.
+const SUB_RECORDS: Kind = Kind::Number {
+    low: 0,
+    high: MOST_SUB_RECORDS,
+    outside: FaultKind::BadNumber,
+};
+
+// What the line says, whose first field starts at `start`.
+#[tactic(auto, unfolding(rules::specs::Line::shape_for, rules::specs::Line::read_as_over, rules::specs::Line::record_shape, rules::specs::Line::said, crate::specs::Fitting::shape_said, crate::specs::Fitting::values_of))]
+fn shape_line(line: &[u8], start: usize, expected: Expected) -> Result<LineAnswer, Fault>
+    requires { StartsAt 0 line.now start }
+    ensures { answer_in result ≡ shape_said (shape_for expected (fields_of line.now)) (fault BadMarker (start + 1)) (length line.now + 1) (fields_of line.now) }
 {
-    if field_start(file, at, stop) == stop {
-        return LineAnswer::Blank;
-    }
     match expected {
-        Expected::AnyHeader => header_line(file, at, stop),
-        Expected::OpeningTitle => read_as(file, at, stop, OPENING),
-        Expected::ClosingTitle => read_as(file, at, stop, CLOSING),
-        Expected::CodeRecord => code_line(file, at, stop),
-        Expected::EntryRecord => entry_line(file, at, stop),
-        Expected::ExternalRecord => external_line(file, at, stop),
-        Expected::DataRecord => read_as(file, at, stop, DATA),
-        Expected::InitRecord => read_as(file, at, stop, INIT),
-        Expected::ParameterRecord => read_as(file, at, stop, PARAMETER),
-        Expected::SubRecord => read_as(file, at, stop, SUB),
+        Expected::AnyHeader => header_line(line, start),
+        Expected::OpeningTitle => Ok(LineAnswer::Opening(name_alone(line)?)),
+        Expected::ClosingTitle => Ok(LineAnswer::Closing(name_alone(line)?)),
+        Expected::CodeRecord => code_line(line, start),
+        Expected::EntryRecord => entry_line(line),
+        Expected::ExternalRecord => Ok(LineAnswer::Mentioned(name_alone(line)?)),
+        Expected::DataRecord => {
+            fit(line, &[NUMBER, NUMBER])?;
+            Ok(LineAnswer::Ignored)
+        }
+        Expected::InitRecord => {
+            fit(line, &[Kind::Anything; 5])?;
+            Ok(LineAnswer::Ignored)
+        }
+        Expected::ParameterRecord => {
+            let n = fit(line, &[NUMBER, NUMBER, SUB_RECORDS])?;
+            Ok(LineAnswer::Parameter(n[2]))
+        }
+        Expected::SubRecord => {
+            fit(line, &[NUMBER, NUMBER])?;
+            Ok(LineAnswer::Sub)
+        }
     }
 }
 
+// What the fields of the line say. A line with no field is skipped.
+fn fields_say(line: &[u8], expected: Expected) -> Result<LineAnswer, Fault>
+    ensures { answer_in result ≡ line_of expected (length line.now + 1) (fields_of line.now) }
+{
+    let start = field_start(line, 0);
+    if start == line.len() {
+        return Ok(LineAnswer::Blank);
+    }
+    shape_line(line, start, expected)
+}
+
 // The first illegal byte, or the 81st, is a fault of the line too: the leftmost is told.
+#[tactic(auto, unfolding(rules::specs::Line::test_bytes, rules::specs::Line::within, rules::specs::Line::fault_in))]
 fn test_bytes(front: usize, size: usize, answer: LineAnswer) -> LineAnswer
     ensures { result ≡ test_bytes front size answer }
 {
@@ -53,28 +83,20 @@ fn test_bytes(front: usize, size: usize, answer: LineAnswer) -> LineAnswer
         return answer;
     }
     match answer {
-        LineAnswer::Bad(fault) => {
-            if fault.column <= front {
-                return answer;
-            }
-            bad(FaultKind::IllegalByte, front + 1)
-        }
-        _ => bad(FaultKind::IllegalByte, front + 1),
+        LineAnswer::Bad(fault) if fault.column <= front => answer,
+        _ => LineAnswer::Bad(fault_at(FaultKind::IllegalByte, front)),
     }
 }
 
-// What the line from `at` to `stop` of the file says, given what is expected of it; `front` of its bytes are legal before one is
-// not.
-pub fn line_answer(
-    file: &[u8],
-    at: usize,
-    stop: usize,
-    front: usize,
-    expected: Expected,
-) -> LineAnswer
-    requires in_file { InFile at stop file.now }
-    requires front_value { front ≡ legal_front longest_line (part at stop file.now) }
-    ensures { result ≡ line_answer expected (part at stop file.now) }
+// What the line says, given what is expected of it; `front` of its bytes are legal before one is not.
+#[tactic(auto, unfolding(rules::specs::Line::line_answer_over))]
+pub fn line_answer(line: &[u8], front: usize, expected: Expected) -> LineAnswer
+    requires { front ≡ legal_front longest_line line.now }
+    ensures { result ≡ line_answer expected line.now }
 {
-    test_bytes(front, stop - at, fields_say(file, at, stop, expected))
+    let answer = match fields_say(line, expected) {
+        Ok(answer) => answer,
+        Err(fault) => LineAnswer::Bad(fault),
+    };
+    test_bytes(front, line.len(), answer)
 }

@@ -1,3 +1,4 @@
+pub mod ReasonLaws
 pub mod PassLaws
 pub mod WordLaws
 pub mod EntryLaws

@@ -1,13 +1,13 @@
 -- The passes, one after the other, are the placing of a module.
 use Prim.Native.Nat.{ℕ, ◌+◌, ◌<◌, ◌≤◌}
 use native.Mathlib.Omega.{arith}
-use mathlib.Core.Bool.{Bool, true, false, cond, not}
+use mathlib.Core.Bool.{Bool, true, false, cond}
 use mathlib.Core.List.{List}
 use mathlib.Core.Logic.{◌≢◌}
 use mathlib.Core.Path.{◌≡◌, refl, sym, ap, ap₂, subst, ◌∙◌}
 use lib.ListN.{length, get_or, take}
 use lib.Dec.{ltb, leb}
-use borrow.Author.Tests.{lt-ltb, le-ltb, leb-true, leb-false, ltb-true, ltb-false, not-true, not-false}
+use borrow.Author.Tests.{lt-ltb, le-ltb, leb-true, leb-false, ltb-true, ltb-false}
 use Rattle.rules.specs.Text.{all, any}
 use Rattle.rules.specs.Reading.{Module, module_at}
 use Rattle.rules.specs.State.{Symbol, State, state}
@@ -23,7 +23,10 @@ use Rattle.state.specs.Good.{Good, Holds, with_next}
 use Rattle.tables.specs.Heads.{names_in}
 use Rattle.placing.specs.Passes.{bad_code, over_range, repeated}
 use Rattle.placing.specs.Effects.{laid, Laid, Linkable, relinked, link_at, plain_all, entered, entering_fault, Entered, mentioned, positions_of, Mentioned, Tried}
-use Rattle.placing.specs.declared.symbols.Mentions.{Mentions}
+use Rattle.rules.specs.Answers.{reason_number, answer_number}
+use Rattle.rules.specs.declared.answer.Reason.{Reason}
+use Rattle.std.specs.Prelude.{Result, Ok, Err, is_ok}
+use Rattle.placing.proofs.ReasonLaws.{refuses}
 use Rattle.placing.proofs.LinkLaws.{position_at, position_there, link_laid}
 
 -- the tests, at a base
@@ -73,13 +76,15 @@ module _ (s : State) (ps : List Part) (sound : ModuleSound (module_at 0 ps)) (fu
       room : ltb 4096 (base + length_in ps) ≡ false
       room = le-ltb 4096 (base + length_in ps) (omega arith)
 
-      pub placed_twice : {r : Bool} {after : List ℕ} → Laid base (code_in ps) s r after → r ≡ true → Tried s m 10 after
+      pub placed_twice : {r : Reason} {after : List ℕ} → Laid base (code_in ps) s (Err r) after → Tried s m (reason_number r) after
       unfolding faults
-      placed_twice p e = refused p.good (λ z. omega arith) (omega arith) (rw (room, sym p.clash_is ∙ e))
+      placed_twice {r} {after} p =
+          subst (λ (e : Reason). Tried s m (reason_number e) after) (sym p.reason)
+          (refused p.good (λ z. omega arith) (omega arith) (rw (room, sym p.clash_is)))
 
-      module _ {r : Bool} {st₁ : List ℕ} (p : Laid base (code_in ps) s r st₁) (e : r ≡ false) where
+      module _ {st₁ : List ℕ} (p : Laid base (code_in ps) s (Ok tt) st₁) where
         apart : clash base (code_in ps) s.words ≡ false
-        apart = sym p.clash_is ∙ e
+        apart = sym p.clash_is
 
         module _ {n : ℕ} (c : n ≡ length (externals_in ps)) {a : Bool} (q : a ≡ any (bad_code n) (code_in ps)) where
           arguments_are : a ≡ any (bad_code (length (externals_in ps))) (code_in ps)
@@ -97,7 +102,7 @@ module _ (s : State) (ps : List Part) (sound : ModuleSound (module_at 0 ps)) (fu
                 refused p.good (λ z. omega arith) (omega arith)
                 (rw (room, apart, sym arguments_are ∙ f, sym u ∙ v))
 
-            module _ (v : o ≡ false) {d : ℕ} {st₂ : List ℕ} (x : Entered base (entries_in ps) (decode st₁) d st₂) where
+            module _ (v : o ≡ false) {d : Result (Unit {0}) Reason} {st₂ : List ℕ} (x : Entered base (entries_in ps) (decode st₁) d st₂) where
               -- the faults that are left
               last_faults : faults base s ps
                   ≡ cond (repeated s.symbols (names_in ps)) 13
@@ -105,11 +110,11 @@ module _ (s : State) (ps : List Part) (sound : ModuleSound (module_at 0 ps)) (fu
               unfolding faults
               last_faults = rw (room, apart, sym arguments_are ∙ f, sym u ∙ v)
 
-              entering : d ≡ entering_fault base (entries_in ps) s
-              entering = x.number ∙ ap (entering_fault base (entries_in ps)) (p.done e)
+              entering : answer_number d ≡ entering_fault base (entries_in ps) s
+              entering = x.number ∙ ap (entering_fault base (entries_in ps)) p.done
 
-              pub entry_fault : d ≢ 0 → Tried s m d st₂
-              entry_fault z =
+              entry_stops : answer_number d ≢ 0 → Tried s m (answer_number d) st₂
+              entry_stops z =
                   let es = entries_in ps in
                   let xs = externals_in ps in
                   let t = define_all base es s.symbols in
@@ -127,78 +132,77 @@ module _ (s : State) (ps : List Part) (sound : ModuleSound (module_at 0 ps)) (fu
                   stopped false true g i q z = (rw (i refl) (sym q), omega arith)
                   stopped false false g i q z = absurd (z q)
 
-              module _ (z : d ≡ 0) {w : Mentions} {st₃ : List ℕ} (y : Mentioned (externals_in ps) (decode st₂) w st₃) where
+            pub entry_fault : (v : o ≡ false) {r : Reason} {st₂ : List ℕ} → Entered base (entries_in ps) (decode st₁) (Err r) st₂ → Tried s m (reason_number r) st₂
+            entry_fault v {r} x = entry_stops v x (refuses r)
+
+            module _ (v : o ≡ false) {st₂ : List ℕ} (x : Entered base (entries_in ps) (decode st₁) (Ok tt) st₂) where
+              module _ {w : Result (List ℕ) Reason} {st₃ : List ℕ} (y : Mentioned (externals_in ps) (decode st₂) w st₃) where
                 -- no name stands twice
                 single : repeated s.symbols (names_in ps) ≡ false
-                single = go (repeated s.symbols (names_in ps)) _ (sym entering ∙ z)
+                single = go (repeated s.symbols (names_in ps)) _ (sym (entering v x))
                   where
                     go : (r : Bool) (n : ℕ) → cond r 13 n ≡ 0 → r ≡ false
                     go true n q = absurd (omega arith)
                     go false n q = refl
 
                 state₂ : decode st₂ ≡ entered base (entries_in ps) (laid base (code_in ps) s)
-                state₂ = x.done z ∙ ap (entered base (entries_in ps)) (p.done e)
+                state₂ = x.done ∙ ap (entered base (entries_in ps)) p.done
 
-                room_is : w.room ≡ leb (length (mention_all (externals_in ps) (define_all base (entries_in ps) s.symbols))) 256
+                room_is : is_ok w ≡ leb (length (mention_all (externals_in ps) (define_all base (entries_in ps) s.symbols))) 256
                 room_is = y.room_is ∙ ap (λ (v : State). leb (length (mention_all (externals_in ps) v.symbols)) 256) state₂
 
-                pub table_full_lem : not w.room ≡ true → Tried s m 14 st₃
-                table_full_lem i =
-                    let t = mention_all (externals_in ps) (define_all base (entries_in ps) s.symbols) in
-                    let long : 256 < length t = leb-false (length t) 256 (sym room_is ∙ not-true w.room i) in
-                    refused y.good (λ z. omega arith) (omega arith) (last_faults ∙ rw (single, lt-ltb 256 (length t) long))
+              pub table_full_lem : {r : Reason} {st₃ : List ℕ} → Mentioned (externals_in ps) (decode st₂) (Err r) st₃ → Tried s m (reason_number r) st₃
+              table_full_lem {r} {st₃} y =
+                  let t = mention_all (externals_in ps) (define_all base (entries_in ps) s.symbols) in
+                  let long : 256 < length t = leb-false (length t) 256 (sym (room_is y)) in
+                  subst (λ (e : Reason). Tried s m (reason_number e) st₃) (sym y.full)
+                  (refused y.good (λ z. omega arith) (omega arith) (last_faults v x ∙ rw (single y, lt-ltb 256 (length t) long)))
 
-                module _ (i : not w.room ≡ false) where
-                  abbrev at : List ℕ
-                  at = w.at
+              module _ {at : List ℕ} {st₃ : List ℕ} (y : Mentioned (externals_in ps) (decode st₂) (Ok at) st₃) where
+                abbrev table : List Symbol
+                table = mention_all (externals_in ps) (define_all base (entries_in ps) s.symbols)
 
-                  abbrev table : List Symbol
-                  table = mention_all (externals_in ps) (define_all base (entries_in ps) s.symbols)
+                state₃ : decode st₃ ≡ mentioned (externals_in ps) (entered base (entries_in ps) (laid base (code_in ps) s))
+                state₃ = y.done ∙ ap (mentioned (externals_in ps)) (state₂ y)
 
-                  roomy : w.room ≡ true
-                  roomy = not-false w.room i
+                positions_are : take (length (externals_in ps)) at ≡ positions_of (externals_in ps) (define_all base (entries_in ps) s.symbols)
+                positions_are = y.positions ∙ ap (λ (v : State). positions_of (externals_in ps) v.symbols) (state₂ y)
 
-                  state₃ : decode st₃ ≡ mentioned (externals_in ps) (entered base (entries_in ps) (laid base (code_in ps) s))
-                  state₃ = y.done roomy ∙ ap (mentioned (externals_in ps)) state₂
+                pub can_link : length (externals_in ps) ≤ 64 → Linkable (length (externals_in ps)) (code_in ps) at (decode st₃)
+                can_link few =
+                    record {
+                      few = few;
+                      arguments = sym arguments_are ∙ f;
+                      there =
+                          λ k h.
+                          subst (λ (v : State). get_or at k 0 < length v.symbols) (sym state₃)
+                          (position_there (externals_in ps) (define_all base (entries_in ps) s.symbols) at positions_are k h);
+                    }
 
-                  positions_are : take (length (externals_in ps)) at ≡ positions_of (externals_in ps) (define_all base (entries_in ps) s.symbols)
-                  positions_are = y.positions roomy ∙ ap (λ (v : State). positions_of (externals_in ps) v.symbols) state₂
-
-                  pub can_link : length (externals_in ps) ≤ 64 → Linkable (length (externals_in ps)) (code_in ps) at (decode st₃)
-                  can_link few =
-                      record {
-                        few = few;
-                        arguments = sym arguments_are ∙ f;
-                        there =
-                            λ k h.
-                            subst (λ (v : State). get_or at k 0 < length v.symbols) (sym state₃)
-                            (position_there (externals_in ps) (define_all base (entries_in ps) s.symbols) at positions_are k h);
-                      }
-
-                  pub all_done : {st₄ st₅ : List ℕ} → Holds st₄ (relinked base at (code_in ps) (decode st₃)) →
-                      Holds st₅ (with_next (base + size) (decode st₄)) → Tried s m 0 st₅
-                  unfolding placed joined
-                  all_done {st₄} {st₅} h₄ h₅ =
-                      let words : link_at base at (code_in ps) (plain_all base (code_in ps) s.words) ≡ put_all base (externals_in ps) table (code_in ps) s.words =
-                      link_laid base (externals_in ps) table at
-                      (position_at (externals_in ps) (define_all base (entries_in ps) s.symbols) at positions_are)
-                      (code_in ps)
-                      s.words
-                      apart
-                      (sym arguments_are ∙ f) in
-                      let fits : length table ≤ 256 = leb-true (length table) 256 (sym room_is ∙ roomy) in
-                      let next : base + size ≡ base + length_in ps = ap (λ k. base + k) l in
-                      record {
-                        number = sym (last_faults ∙ rw (single, le-ltb 256 (length table) fits)) ∙ fault_is;
-                        most = omega arith;
-                        good = h₅.good;
-                        done =
-                            λ _.
-                            h₅.is
-                            ∙ ap (with_next (base + size)) (h₄.is ∙ ap (relinked base at (code_in ps)) state₃)
-                            ∙ ap₂ (λ ws k. state table ws k s.mark) words next
-                            ∙ rw b;
-                      }
+                pub all_done : {st₄ st₅ : List ℕ} → Holds st₄ (relinked base at (code_in ps) (decode st₃)) →
+                    Holds st₅ (with_next (base + size) (decode st₄)) → Tried s m 0 st₅
+                unfolding placed joined
+                all_done {st₄} {st₅} h₄ h₅ =
+                    let words : link_at base at (code_in ps) (plain_all base (code_in ps) s.words) ≡ put_all base (externals_in ps) table (code_in ps) s.words =
+                    link_laid base (externals_in ps) table at
+                    (position_at (externals_in ps) (define_all base (entries_in ps) s.symbols) at positions_are)
+                    (code_in ps)
+                    s.words
+                    apart
+                    (sym arguments_are ∙ f) in
+                    let fits : length table ≤ 256 = leb-true (length table) 256 (sym (room_is y)) in
+                    let next : base + size ≡ base + length_in ps = ap (λ k. base + k) l in
+                    record {
+                      number = sym (last_faults v x ∙ rw (single y, le-ltb 256 (length table) fits)) ∙ fault_is;
+                      most = omega arith;
+                      good = h₅.good;
+                      done =
+                          λ _.
+                          h₅.is
+                          ∙ ap (with_next (base + size)) (h₄.is ∙ ap (relinked base at (code_in ps)) state₃)
+                          ∙ ap₂ (λ ws k. state table ws k s.mark) words next
+                          ∙ rw b;
+                    }
 
 -- a module's line does not matter
 pub any_line : {s : State} {n k : ℕ} {ps : List Part} {r : ℕ} {after : List ℕ} → Tried s (module_at n ps) r after →

@@ -16,24 +16,27 @@ use Rattle.state.specs.Layout.{decode}
 use Rattle.state.specs.Good.{Good}
 use Rattle.placing.specs.Effects.{Tried}
 use Rattle.placing.specs.Walks.{Agrees, PlacedRow}
+use Rattle.rules.specs.Answers.{reason_number}
+use Rattle.rules.specs.declared.answer.Reason.{Reason}
+use Rattle.rules.specs.declared.reading.Part.{Part}
+use Rattle.placing.proofs.ReasonLaws.{refuses}
 use Rattle.placing.proofs.PlaceLaws.{any_line}
 
--- the module of a row, from the cells that are lent
-module _ (parts rows : List ℕ) (row : ℕ) {cells : List ℕ} (q : cells ≡ cells_in parts (start_in rows row) (end_in rows row)) where
-  pub module_is : module_in parts rows row ≡ module_at (line_in rows row) (parts_of cells)
+-- the module of a row, from the parts that are lent
+module _ (parts rows : List ℕ) (row : ℕ) {ps : List Part} (q : ps ≡ parts_of (cells_in parts (start_in rows row) (end_in rows row))) where
+  module_is : module_in parts rows row ≡ module_at (line_in rows row) ps
   unfolding module_in
-  module_is = sym (ap (λ l. module_at (line_in rows row) (parts_of l)) q)
+  module_is = sym (ap (module_at (line_in rows row)) q)
 
-  pub sound_lent : ModuleSound (module_in parts rows row) → ModuleSound (module_at 0 (parts_of cells))
+  pub sound_lent : ModuleSound (module_in parts rows row) → ModuleSound (module_at 0 ps)
   sound_lent h = subst ModuleSound module_is h
 
-  pub tried_row : {s : State} {r : ℕ} {after : List ℕ} → Tried s (module_at 0 (parts_of cells)) r after →
-      Tried s (module_in parts rows row) r after
+  pub tried_row : {s : State} {r : ℕ} {after : List ℕ} → Tried s (module_at 0 ps) r after → Tried s (module_in parts rows row) r after
   tried_row {s} {r} {after} t = subst (λ m. Tried s m r after) (sym module_is) (any_line t)
 
-  pub line_row : (module_in parts rows row).line ≡ line_in rows row
-  unfolding module_in
-  line_row = refl
+pub line_row : (parts rows : List ℕ) (row : ℕ) → (module_in parts rows row).line ≡ line_in rows row
+unfolding module_in
+line_row parts rows row = refl
 
 module _ {w : Walk} {r : Refusal} {cells : List ℕ} (a : Agrees w r cells) where
   pub goes_on_lem : r.number ≡ 0 → accepted w ≡ true
@@ -47,28 +50,30 @@ module _ {m : Module} {old : Refusal} {before : List ℕ} where
   unfolding place
   place_refused g n = record { good = g; does = λ w a. subst (λ v. Agrees v old before) (sym (rw (stands a n))) a }
 
-  module _ (z : old.number ≡ 0) {r : ℕ} {after : List ℕ} (t : Tried (decode before) m r after) where
-    pub place_done : r ≡ 0 → PlacedRow m old before (refusal r 0) after
+  module _ (z : old.number ≡ 0) {after : List ℕ} where
+    pub place_done : Tried (decode before) m 0 after → PlacedRow m old before (refusal 0 0) after
     unfolding place try_place
-    place_done e =
+    place_done t =
         record {
           good = t.good;
           does =
               λ w a.
               let s : decode before ≡ w.state = a.state_is z in
-              let none : placing_fault w.state m ≡ 0 = ap (λ v. placing_fault v m) (sym s) ∙ sym t.number ∙ e in
-              rw (goes_on_lem a z, none) (record { refusal_is = ap (λ k. refusal k 0) e; state_is = λ _. t.done e ∙ ap (λ v. placed v m) s });
+              let none : placing_fault w.state m ≡ 0 = ap (λ v. placing_fault v m) (sym s) ∙ sym t.number in
+              rw (goes_on_lem a z, none) (record { refusal_is = refl; state_is = λ _. t.done refl ∙ ap (λ v. placed v m) s });
         }
 
-    pub place_not : r ≢ 0 → {l : ℕ} → l ≡ m.line → PlacedRow m old before (refusal r l) after
+    pub place_not : (e : Reason) → Tried (decode before) m (reason_number e) after → {r l : ℕ} → r ≡ reason_number e → l ≡ m.line →
+        PlacedRow m old before (refusal r l) after
     unfolding place try_place
-    place_not n {l} q =
+    place_not e t {r} {l} o q =
+        let n : r ≢ 0 = λ z. refuses e (sym o ∙ z) in
         record {
           good = t.good;
           does =
               λ w a.
               let s : decode before ≡ w.state = a.state_is z in
-              let is : r ≡ placing_fault w.state m = t.number ∙ ap (λ v. placing_fault v m) s in
+              let is : r ≡ placing_fault w.state m = o ∙ t.number ∙ ap (λ v. placing_fault v m) s in
               rw (goes_on_lem a z, ne_eqb (placing_fault w.state m) 0 (λ e. n (is ∙ e)))
-              (record { refusal_is = ap₂ refusal is q; state_is = λ e. absurd (n e) });
+              (record { refusal_is = ap₂ refusal is q; state_is = λ f. absurd (n f) });
         }

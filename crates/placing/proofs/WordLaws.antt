@@ -1,10 +1,10 @@
 -- The passes over the code words: each turn in the words of the code, and what they come to.
-use Prim.Native.Nat.{ℕ, ◌+◌, ◌-◌, ◌<◌, ◌≤◌}
+use Prim.Native.Nat.{ℕ, ◌+◌, ◌-◌, ◌≤◌}
 use native.Mathlib.Omega.{arith}
 use mathlib.Core.Bool.{Bool, true, false, cond, ◌||◌}
 use mathlib.Core.List.{List, [], ◌∷◌, map}
 use mathlib.Core.Path.{◌≡◌, refl, sym, ap, ap₂, subst, ◌∙◌}
-use lib.ListN.{length, get_or, set, get_or-map}
+use lib.ListN.{get_or, set, get_or-map}
 use lib.Dec.{eqb, ltb}
 use borrow.Author.Tests.{ltb-false, eqb-false}
 use Rattle.rules.specs.Text.{any}
@@ -13,14 +13,17 @@ use Rattle.rules.specs.Placing.{Code, code_in}
 use Rattle.rules.specs.declared.reading.Part.{Part}
 use Rattle.rules.proofs.BoolLaws.{or_off}
 use Rattle.rules.proofs.OverlapLaws.{clash}
-use Rattle.tables.specs.Tables.{part_of}
+use Rattle.rules.specs.declared.answer.Reason.TheVariants.{Overlap}
+use Rattle.std.specs.Prelude.{Ok, Err}
+use Rattle.tables.specs.declared.iter.PartCells.{PartCells}
+use Rattle.tables.specs.Iter.{part_at}
 use Rattle.state.specs.Layout.{decode}
 use Rattle.state.specs.Good.{Good, Holds, with_words}
 use Rattle.state.proofs.ListLaws.{map_set}
-use Rattle.tables.specs.Heads.{parts_from, is_word, address_of, argument_of, is_reference, code_of}
+use Rattle.tables.specs.Heads.{is_word, address_of, argument_of, is_reference, code_of}
 use Rattle.placing.specs.Passes.{bad_code, is_bad}
-use Rattle.tables.proofs.HeadLaws.{parts_done, parts_next, part_cases, code_cons}
-use Rattle.placing.proofs.PassLaws.{bad_turn}
+use Rattle.tables.proofs.HeadLaws.{part_cases, code_cons}
+use Rattle.placing.proofs.PassLaws.{bad_cons}
 use Rattle.placing.specs.Effects.{plain_all, Laid, Laying, relink, link_at, relinked, Linking}
 
 -- ---- what is placed is all that a clash looks at
@@ -53,31 +56,6 @@ clash_cons base c cs ws w p =
     ap (λ b. is_placed (get_or ws i unplaced) || b)
     (clash_same base cs (set ws i (plain 0)) (set ws i w) (same_places ws ws i (plain 0) w refl (sym p)))
 
-abbrev head_at : List ℕ → ℕ → ℕ
-head_at cells i = get_or cells i 0
-
-abbrev body_at : List ℕ → ℕ → ℕ
-body_at cells i = get_or cells (i + 1) 0
-
--- ---- the words from a cell on
-
-module _ (cells : List ℕ) (i : ℕ) where
-  pub codes_done : length cells - i ≤ 1 → code_in (parts_from cells i) ≡ []
-  unfolding code_in
-  codes_done h = ap code_in (parts_done cells i h)
-
-  module _ (h : 1 < length cells - i) where
-    codes_next : code_in (parts_from cells i)
-        ≡ cond (is_word (head_at cells i)) (code_of (head_at cells i) (body_at cells i) ∷ code_in (parts_from cells (i + 2))) (code_in (parts_from cells (i + 2)))
-    codes_next = ap code_in (parts_next cells i h) ∙ code_cons _ _ _
-
-    pub no_word : is_word (head_at cells i) ≡ false → code_in (parts_from cells i) ≡ code_in (parts_from cells (i + 2))
-    no_word k = codes_next ∙ rw k
-
-    pub a_word : is_word (head_at cells i) ≡ true →
-        code_in (parts_from cells i) ≡ code_of (head_at cells i) (body_at cells i) ∷ code_in (parts_from cells (i + 2))
-    a_word k = codes_next ∙ rw k
-
 -- ---- laying the words
 
 -- the table is not touched
@@ -85,105 +63,113 @@ pub lay_table : {base : ℕ} {whole rest : List Code} {s₀ s : State} → Layin
 lay_table l = ap (λ (v : State). v.symbols) l.laid_is
 
 module _ (base : ℕ) (whole : List Code) (s₀ : State) where
-  module _ (cells : List ℕ) (i : ℕ) (h : 1 < length cells - i) where
-    pub lay_skip : (s : State) → is_word (head_at cells i) ≡ false →
-        Laying base whole s₀ (code_in (parts_from cells i)) s → Laying base whole s₀ (code_in (parts_from cells (i + 2))) s
-    lay_skip s k = subst (λ cs. Laying base whole s₀ cs s) (no_word cells i h k)
+  module _ {left rest : List PartCells} {x : PartCells} (h : left ≡ x ∷ rest) (s : State) (from : Laying base whole s₀ (code_in (map part_at left)) s) where
+    abbrev ps : List Part
+    ps = map part_at rest
 
-    module _ (s : State) (k : is_word (head_at cells i) ≡ true) (l : Laying base whole s₀ (code_in (parts_from cells i)) s)
-        (d : ℕ) (e : d ≡ address_of (head_at cells i)) (r : Bool) (q : r ≡ is_placed (get_or s.words (base + d) unplaced)) where
-      here : Laying base whole s₀ (code_of (head_at cells i) (body_at cells i) ∷ code_in (parts_from cells (i + 2))) s
-      here = subst (λ cs. Laying base whole s₀ cs s) (a_word cells i h k) l
+    l : Laying base whole s₀ (code_in (part_at x ∷ ps)) s
+    l = subst (λ xs. Laying base whole s₀ (code_in (map part_at xs)) s) h from
+
+    pub lay_skip : is_word x.head ≡ false → Laying base whole s₀ (code_in ps) s
+    lay_skip k = subst (λ cs. Laying base whole s₀ cs s) (code_cons x.head x.body ps ∙ rw k) l
+
+    module _ (k : is_word x.head ≡ true) (d : ℕ) (e : d ≡ address_of x.head) (r : Bool) (q : r ≡ is_placed (get_or s.words (base + d) unplaced)) where
+      here : Laying base whole s₀ (code_of x.head x.body ∷ code_in ps) s
+      here = subst (λ cs. Laying base whole s₀ cs s) (code_cons x.head x.body ps ∙ rw k) l
 
       clash_here : clash base whole s₀.words
-          ≡ (r || clash base (code_in (parts_from cells (i + 2))) (set s.words (base + d) (plain (body_at cells i))))
+          ≡ (r || clash base (code_in ps) (set s.words (base + d) (plain x.body)))
       unfolding code_of
       clash_here =
           sym here.clash_is
-          ∙ clash_cons base (code_of (head_at cells i) (body_at cells i)) (code_in (parts_from cells (i + 2))) s.words (plain (body_at cells i)) refl
+          ∙ clash_cons base (code_of x.head x.body) (code_in ps) s.words (plain x.body) refl
           ∙ rw (← e, ← q)
 
-      pub lay_clash : r ≡ true → true ≡ clash base whole s₀.words
-      lay_clash t = sym (clash_here ∙ rw t)
+      pub lay_clash : r ≡ true → {state : List ℕ} → Good state → s ≡ decode state → Laid base whole s₀ (Err Overlap) state
+      lay_clash t g is =
+          record {
+            clash_is = sym (clash_here ∙ rw t);
+            reason = refl;
+            good = g;
+            table_is = ap (λ (v : State). v.symbols) (sym is) ∙ lay_table l;
+            done = tt;
+          }
 
-      pub lay_put : r ≡ false → (s' : State) → s' ≡ with_words (set s.words (base + d) (plain (body_at cells i))) s →
-          Laying base whole s₀ (code_in (parts_from cells (i + 2))) s'
+      pub lay_put : r ≡ false → (s' : State) → s' ≡ with_words (set s.words (base + d) (plain x.body)) s →
+          Laying base whole s₀ (code_in ps) s'
       unfolding plain_all code_of
       lay_put f s' u =
-          subst (Laying base whole s₀ (code_in (parts_from cells (i + 2)))) (sym u)
+          subst (Laying base whole s₀ (code_in ps)) (sym u)
           (record {
             clash_is = sym (clash_here ∙ rw f);
             laid_is = rw e here.laid_is;
           })
 
-  pub lay_done : (cells : List ℕ) (i : ℕ) → length cells - i ≤ 1 → (state : List ℕ) → Good state →
-      Laying base whole s₀ (code_in (parts_from cells i)) (decode state) → Laid base whole s₀ false state
-  unfolding plain_all clash
-  lay_done cells i h state g l =
-      let e : Laying base whole s₀ [] (decode state) =
-      subst (λ cs. Laying base whole s₀ cs (decode state)) (codes_done cells i h) l in
-      record { clash_is = e.clash_is; good = g; table_is = lay_table l; done = λ _. e.laid_is }
+  pub lay_done : {left : List PartCells} → left ≡ [] → (state : List ℕ) → Good state →
+      Laying base whole s₀ (code_in (map part_at left)) (decode state) → Laid base whole s₀ (Ok tt) state
+  unfolding code_in plain_all clash
+  lay_done h state g from =
+      let e : Laying base whole s₀ [] (decode state) = subst (λ xs. Laying base whole s₀ (code_in (map part_at xs)) (decode state)) h from in
+      record { clash_is = e.clash_is; reason = tt; good = g; table_is = lay_table e; done = e.laid_is }
 
 -- ---- linking the words
 
 module _ (base : ℕ) (at : List ℕ) where
-  link_cons : (h b : ℕ) (ps : List Part) (ws : List Word) →
-      link_at base at (code_in (part_of h b ∷ ps)) ws
-      ≡ link_at base at (code_in ps)
-      (cond (is_reference h) (set ws (base + address_of h) (refers b (get_or at (argument_of h - 1) 0))) ws)
+  link_cons : (x : PartCells) (qs : List Part) (ws : List Word) →
+      link_at base at (code_in (part_at x ∷ qs)) ws
+      ≡ link_at base at (code_in qs)
+      (cond (is_reference x.head) (set ws (base + address_of x.head) (refers x.body (get_or at (argument_of x.head - 1) 0))) ws)
   unfolding code_in link_at relink
-  link_cons h b ps ws =
-      part_cases h b
+  link_cons x qs ws =
+      part_cases x.head x.body
       (λ p.
-      link_at base at (code_in (p ∷ ps)) ws
-      ≡ link_at base at (code_in ps)
-      (cond (is_reference h) (set ws (base + address_of h) (refers b (get_or at (argument_of h - 1) 0))) ws))
+      link_at base at (code_in (p ∷ qs)) ws
+      ≡ link_at base at (code_in qs)
+      (cond (is_reference x.head) (set ws (base + address_of x.head) (refers x.body (get_or at (argument_of x.head - 1) 0))) ws))
       (λ e. rw e) (λ e. rw e) (λ e. rw e) (λ e. rw e) (λ e. rw e) (λ e. rw e) (λ e. rw e) (λ e. rw e)
 
   module _ (n : ℕ) (whole : List Code) (s₀ : State) where
-    module _ (cells : List ℕ) (i : ℕ) (h : 1 < length cells - i) (s : State)
-        (l : Linking base n at whole s₀ (code_in (parts_from cells i)) s) where
-      good_numbers : (is_bad n (head_at cells i) ≡ false) × (any (bad_code n) (code_in (parts_from cells (i + 2))) ≡ false)
-      good_numbers = or_off _ _ (bad_turn cells i h n l.arguments refl refl)
+    module _ {left rest : List PartCells} {x : PartCells} (h : left ≡ x ∷ rest) (s : State)
+        (from : Linking base n at whole s₀ (code_in (map part_at left)) s) where
+      abbrev qs : List Part
+      qs = map part_at rest
 
-      linked_on : link_at base at (code_in (parts_from cells i)) s.words
-          ≡ link_at base at (code_in (parts_from cells (i + 2)))
-          (cond (is_reference (head_at cells i)) (set s.words (base + address_of (head_at cells i)) (refers (body_at cells i) (get_or at (argument_of (head_at cells i) - 1) 0))) s.words)
-      linked_on =
-          ap (λ ps. link_at base at (code_in ps) s.words) (parts_next cells i h)
-          ∙ link_cons (head_at cells i) (body_at cells i) (parts_from cells (i + 2)) s.words
+      turn : Linking base n at whole s₀ (code_in (part_at x ∷ qs)) s
+      turn = subst (λ xs. Linking base n at whole s₀ (code_in (map part_at xs)) s) h from
 
-      pub link_skip : is_reference (head_at cells i) ≡ false → Linking base n at whole s₀ (code_in (parts_from cells (i + 2))) s
+      good_numbers : (is_bad n x.head ≡ false) × (any (bad_code n) (code_in qs) ≡ false)
+      good_numbers = or_off _ _ (sym (bad_cons x qs n) ∙ turn.arguments)
+
+      pub link_skip : is_reference x.head ≡ false → Linking base n at whole s₀ (code_in qs) s
       link_skip k =
           record {
-            relinked_is = ap (λ ws. with_words ws s) (sym (linked_on ∙ rw k)) ∙ l.relinked_is;
-            table_is = l.table_is;
+            relinked_is = ap (λ ws. with_words ws s) (sym (link_cons x qs s.words ∙ rw k)) ∙ turn.relinked_is;
+            table_is = turn.table_is;
             arguments = good_numbers.1;
           }
 
-      module _ (k : is_reference (head_at cells i) ≡ true) (number : ℕ) (e : number ≡ argument_of (head_at cells i)) where
+      module _ (k : is_reference x.head ≡ true) (number : ℕ) (e : number ≡ argument_of x.head) where
         pub link_number : (1 ≤ number) × (number ≤ n)
         unfolding is_bad
         link_number =
-            let q = or_off (eqb (argument_of (head_at cells i)) 0) (ltb n (argument_of (head_at cells i))) (rw k at good_numbers.0) in
-            (omega (arith, eqb-false (argument_of (head_at cells i)) 0 q.0), omega (arith, ltb-false n (argument_of (head_at cells i)) q.1))
+            let q = or_off (eqb (argument_of x.head) 0) (ltb n (argument_of x.head)) (rw k at good_numbers.0) in
+            (omega (arith, eqb-false (argument_of x.head) 0 q.0), omega (arith, ltb-false n (argument_of x.head) q.1))
 
-        pub link_put : (d : ℕ) → d ≡ address_of (head_at cells i) → (s' : State) →
-            s' ≡ with_words (set s.words (base + d) (refers (body_at cells i) (get_or at (number - 1) 0))) s →
-            Linking base n at whole s₀ (code_in (parts_from cells (i + 2))) s'
+        pub link_put : (d : ℕ) → d ≡ address_of x.head → (s' : State) →
+            s' ≡ with_words (set s.words (base + d) (refers x.body (get_or at (number - 1) 0))) s →
+            Linking base n at whole s₀ (code_in qs) s'
         link_put d q s' u =
-            subst (Linking base n at whole s₀ (code_in (parts_from cells (i + 2)))) (sym u)
+            subst (Linking base n at whole s₀ (code_in qs)) (sym u)
             (record {
               relinked_is =
-                  ap (λ ws. with_words ws s) (sym (linked_on ∙ rw (k, ← e, ← q))) ∙ l.relinked_is;
-              table_is = l.table_is;
+                  ap (λ ws. with_words ws s) (sym (link_cons x qs s.words ∙ rw (k, ← e, ← q))) ∙ turn.relinked_is;
+              table_is = turn.table_is;
               arguments = good_numbers.1;
             })
 
-    pub link_done : (cells : List ℕ) (i : ℕ) → length cells - i ≤ 1 → (state : List ℕ) → Good state →
-        Linking base n at whole s₀ (code_in (parts_from cells i)) (decode state) → Holds state (relinked base at whole s₀)
-    unfolding link_at
-    link_done cells i h state g l =
-        let e : Linking base n at whole s₀ [] (decode state) =
-        subst (λ cs. Linking base n at whole s₀ cs (decode state)) (codes_done cells i h) l in
+    pub link_done : {left : List PartCells} → left ≡ [] → (state : List ℕ) → Good state →
+        Linking base n at whole s₀ (code_in (map part_at left)) (decode state) → Holds state (relinked base at whole s₀)
+    unfolding code_in link_at
+    link_done h state g from =
+        let e : Linking base n at whole s₀ [] (decode state) = subst (λ xs. Linking base n at whole s₀ (code_in (map part_at xs)) (decode state)) h from in
         record { good = g; is = e.relinked_is }

@@ -1,5 +1,5 @@
 -- What each pass that changes the state does to it, and what it says of that.
-use Rattle.std.specs.Prelude.{ℕ, ◌+◌, ◌-◌, ◌≤◌, ◌<◌, Bool, true, false, cond, List, [], ◌∷◌, ◌++◌, map, ◌≡◌, length, get_or, set, take, leb, ltb}
+use Rattle.std.specs.Prelude.{ℕ, ◌+◌, ◌-◌, ◌≤◌, ◌<◌, false, cond, List, [], ◌∷◌, ◌++◌, map, ◌≡◌, length, get_or, set, take, leb, ltb, Result, is_ok, is_err, IfOk, IfErr, OnOk, IsOkUnless}
 use Rattle.rules.specs.Text.{any}
 use Rattle.rules.specs.Reading.{Module}
 use Rattle.rules.specs.State.{Symbol, position_of, Word, plain, refers, State}
@@ -12,7 +12,9 @@ use Rattle.rules.specs.declared.line.Relocation.TheVariants.{Plain, External, Un
 use Rattle.state.specs.Layout.{decode}
 use Rattle.state.specs.Good.{Good, with_words}
 use Rattle.placing.specs.Passes.{bad_code, repeated}
-use Rattle.placing.specs.declared.symbols.Mentions.{Mentions}
+use Rattle.rules.specs.Answers.{reason_number, answer_number}
+use Rattle.rules.specs.declared.answer.Reason.{Reason}
+use Rattle.rules.specs.declared.answer.Reason.TheVariants.{Overlap, Table}
 
 -- ---- words: first all of them without their references, then the references
 
@@ -24,11 +26,12 @@ abbrev pub laid : ℕ → List Code → State → State
 laid base cs s = with_words (plain_all base cs s.words) s
 
 -- the words are put, unless one of them is placed already
-pub record Laid (base : ℕ) (cs : List Code) (s : State) (r : Bool) (after : List ℕ) : Type 0 where
-  pub clash_is : r ≡ clash base cs s.words
+pub record Laid (base : ℕ) (cs : List Code) (s : State) (r : Result (Unit {0}) Reason) (after : List ℕ) : Type 0 where
+  pub clash_is : is_err r ≡ clash base cs s.words
+  pub reason : IsOkUnless r Overlap
   pub good : Good after
   pub table_is : (decode after).symbols ≡ s.symbols
-  pub done : r ≡ false → decode after ≡ laid base cs s
+  pub done : OnOk r (decode after ≡ laid base cs s)
 
 -- on the way: what the rest comes to from here is what the whole comes to from the start
 pub record Laying (base : ℕ) (whole : List Code) (s₀ : State) (rest : List Code) (s : State) : Type 0 where
@@ -70,10 +73,10 @@ abbrev pub entering_fault : ℕ → List Entry → State → ℕ
 entering_fault base es s =
     cond (repeated s.symbols (map entry_name es)) 13 (cond (ltb 256 (length (define_all base es s.symbols))) 14 0)
 
-pub record Entered (base : ℕ) (es : List Entry) (s : State) (r : ℕ) (after : List ℕ) : Type 0 where
-  pub number : r ≡ entering_fault base es s
+pub record Entered (base : ℕ) (es : List Entry) (s : State) (r : Result (Unit {0}) Reason) (after : List ℕ) : Type 0 where
+  pub number : answer_number r ≡ entering_fault base es s
   pub good : Good after
-  pub done : r ≡ 0 → decode after ≡ entered base es s
+  pub done : OnOk r (decode after ≡ entered base es s)
 
 -- on the way
 pub record Entering (base : ℕ) (whole : List Entry) (s₀ : State) (rest : List Entry) (s : State) : Type 0 where
@@ -81,10 +84,10 @@ pub record Entering (base : ℕ) (whole : List Entry) (s₀ : State) (rest : Lis
   pub entered_is : entered base rest s ≡ entered base whole s₀
 
 -- the first part of a list is entered: with a fault that is the whole list's, or the rest says what the whole list said
-pub record EnteredPart (base : ℕ) (whole : List Entry) (s : State) (rest : List Entry) (r : ℕ) (after : List ℕ) : Type 0 where
+pub record EnteredPart (base : ℕ) (whole : List Entry) (s : State) (rest : List Entry) (r : Result (Unit {0}) Reason) (after : List ℕ) : Type 0 where
   pub good : Good after
-  pub stopped : (r ≡ 0 → ⊥) → r ≡ entering_fault base whole s
-  pub on : r ≡ 0 → Entering base whole s rest (decode after)
+  pub stopped : IfErr r (λ e. reason_number e ≡ entering_fault base whole s)
+  pub on : OnOk r (Entering base whole s rest (decode after))
 
 -- ---- externals
 
@@ -96,11 +99,13 @@ unfoldable pub positions_of : List ℕ → List Symbol → List ℕ
 positions_of [] t = []
 positions_of (x ∷ xs) t = position_of x t ∷ positions_of xs (mention x t)
 
-pub record Mentioned (xs : List ℕ) (s : State) (r : Mentions) (after : List ℕ) : Type 0 where
-  pub room_is : r.room ≡ leb (length (mention_all xs s.symbols)) 256
+-- where the table has room for all of them: the position of each
+pub record Mentioned (xs : List ℕ) (s : State) (r : Result (List ℕ) Reason) (after : List ℕ) : Type 0 where
+  pub room_is : is_ok r ≡ leb (length (mention_all xs s.symbols)) 256
+  pub full : IsOkUnless r Table
   pub good : Good after
-  pub done : r.room ≡ true → decode after ≡ mentioned xs s
-  pub positions : r.room ≡ true → take (length xs) r.at ≡ positions_of xs s.symbols
+  pub done : OnOk r (decode after ≡ mentioned xs s)
+  pub positions : IfOk r (λ at. take (length xs) at ≡ positions_of xs s.symbols)
 
 -- on the way, with the positions of the first n externals
 pub record Mentioning (whole : List ℕ) (s₀ : State) (n : ℕ) (at : List ℕ) (rest : List ℕ) (s : State) : Type 0 where

@@ -6,9 +6,10 @@ use mathlib.Core.List.{List, [], ◌∷◌}
 use mathlib.Core.Path.{◌≡◌, refl, sym, ap, ap₂, subst, ◌∙◌}
 use lib.ListN.{length, drop, get_or, length-append}
 use lib.Seq.{drop-cons}
+use Rattle.std.specs.Prelude.{Ok, Err, MatchResult}
 use Rattle.rules.specs.Text.{LF, lines_of}
 use Rattle.rules.specs.Line.{code_word, line_answer}
-use Rattle.rules.specs.Reading.{at_start, record_done, word_part, step_of, step_at, Reading}
+use Rattle.rules.specs.Reading.{at_start, record_done, word_part, step_of, step_at, at_end, Reading}
 use Rattle.rules.specs.Calls.{overwritten}
 use Rattle.rules.specs.declared.line.CodeWord.{CodeWord}
 use Rattle.rules.specs.declared.line.Expected.TheVariants.{CodeRecord}
@@ -31,9 +32,9 @@ use Rattle.usual.specs.Words.{WordRead}
 use Rattle.usual.specs.declared.UsualWord.{UsualWord}
 use Rattle.reading.specs.TwoTables.{Tables, empty, add_part, add_module, add_section, emit, tables_from, tables_of}
 use Rattle.reading.specs.Filling.{filled_of, parts_in, rows_in, PartRoom, RowRoom, Fills, Lent, file_read, ReadInto}
-use Rattle.reading.specs.Lines.{clean, fault, gone_on, go_on, line_in, ended_at, reached_from, lines_read, RunFrom, Begins, TablesKept, LinesInto}
+use Rattle.reading.specs.Lines.{Reached, clean, fault, gone_on, go_on, line_in, ended_at, reached_from, lines_read, RunFrom, Begins, TablesKept, LinesInto}
+use Rattle.reading.specs.declared.Clean.{Clean}
 use Rattle.reading.specs.declared.Place.{Place}
-use Rattle.reading.specs.declared.FileRead.{FileRead}
 use Rattle.reading.specs.declared.LinesRead.{LinesRead}
 use Rattle.reading.specs.declared.fill.Filled.{Filled}
 use Rattle.reading.proofs.GoLaws.{go_records, ended_is}
@@ -386,11 +387,10 @@ module _ {file lent_parts lent_rows : List ℕ} {m : Mode} (at_start_lem : m ≡
 
   pub file_read_lem :
       {read : LinesRead} {parts rows : List ℕ} → LinesInto file (first m) true lent_parts lent_rows read parts rows → {x : Reading} → x ≡ ended_at read.reached
-      → {r : FileRead} → r ≡ file_read x read.filled → ReadInto file lent_parts lent_rows r parts rows
-  file_read_lem {read} {parts} {rows} l {x} e {r} g =
+      → ReadInto file lent_parts lent_rows (file_read x read.filled) parts rows
+  file_read_lem {read} {parts} {rows} l {x} e =
       let t = l.kept refl in
-      subst (λ (r : FileRead). ReadInto file lent_parts lent_rows r parts rows) (sym g)
-      (record {
+      record {
         reading =
             e
             ∙ ap ended_at (l.reached.is ∙ ap (λ (k : Mode). go_on 1 k (lines_of file)) at_start_lem)
@@ -402,7 +402,13 @@ module _ {file lent_parts lent_rows : List ℕ} {m : Mode} (at_start_lem : m ≡
         row_cells = t.row_cells;
         few_parts = t.few_parts;
         few_rows = t.few_rows;
-      })
+      }
+
+-- what a file comes to, as `and_then` gives it
+pub ended_by : (r : Reached) (x : Reading) (P : Clean → Type 0) → MatchResult r P (λ s. x ≡ Err s) → ((c : Clean) → P c → x ≡ at_end c.line c.mode) → x ≡ ended_at r
+unfolding ended_at
+ended_by (Ok c) x P h f = f c h
+ended_by (Err s) x P h f = h
 
 pub begins_on :
     {file : List ℕ} {p : Place} {parts rows : List ℕ} → p.at ≤ length file → p.line ≤ p.at + 1 → length file ≤ 65536

@@ -5,10 +5,10 @@ ghost use Rattle.reading.specs.Filling.{Put, filled_of, PartRoom, RowRoom, parts
 
 use rules::reading::Part;
 use tables::parts::{part_body, part_head};
-use tables::rows::{FREE, MEMBER, SECTION, row_body, row_head};
+use tables::rows::{RowKind, row_body, row_head};
 
 // How many parts and rows are written, and where the parts of the open module and the rows of the open section begin.
-#[derive(Clone, Copy)]
+#[derive(Clone, Copy, Default)]
 pub struct Filled {
     pub parts: usize,
     pub rows: usize,
@@ -17,15 +17,11 @@ pub struct Filled {
 }
 
 // Empty tables.
+#[tactic(auto, unfolding(crate::specs::TwoTables::empty))]
 pub fn nothing() -> Filled
     ensures { result ≡ filled_of empty }
 {
-    Filled {
-        parts: 0,
-        rows: 0,
-        object: 0,
-        section: 0,
-    }
+    Filled::default()
 }
 
 // Two cells: element i of a table.
@@ -45,9 +41,7 @@ pub fn add_part(parts: &mut [u64], filled: Filled, part: Part) -> Filled
     put(parts, filled.parts, part_head(part), part_body(part));
     Filled {
         parts: filled.parts + 1,
-        rows: filled.rows,
-        object: filled.object,
-        section: filled.section,
+        ..filled
     }
 }
 
@@ -58,20 +52,19 @@ pub fn close_module(rows: &mut [u64], filled: Filled, member: bool, line: u32) -
 {
     let body = row_body(filled.object, filled.parts);
     if member {
-        put(rows, filled.rows, row_head(MEMBER, line), body);
+        put(rows, filled.rows, row_head(RowKind::Member, line), body);
         return Filled {
-            parts: filled.parts,
             rows: filled.rows + 1,
             object: filled.parts,
-            section: filled.section,
+            ..filled
         };
     }
-    put(rows, filled.rows, row_head(FREE, line), body);
+    put(rows, filled.rows, row_head(RowKind::Free, line), body);
     Filled {
-        parts: filled.parts,
         rows: filled.rows + 1,
         object: filled.parts,
         section: filled.rows + 1,
+        ..filled
     }
 }
 
@@ -81,11 +74,11 @@ pub fn close_section(rows: &mut [u64], filled: Filled, line: u32) -> Filled
     ensures { Fills rows_in (add_section line) filled rows.old result rows.new }
 {
     let body = row_body(filled.section, filled.rows);
-    put(rows, filled.rows, row_head(SECTION, line), body);
+    put(rows, filled.rows, row_head(RowKind::Section, line), body);
     Filled {
-        parts: filled.parts,
         rows: filled.rows + 1,
         object: filled.parts,
         section: filled.rows + 1,
+        ..filled
     }
 }

@@ -8,12 +8,12 @@ pub mod said;
 ghost use Rattle.std.specs.Prelude.{◌+◌, ◌≤◌, ◌≡◌, length};
 ghost use Rattle.rules.specs.Line.{code_word};
 ghost use Rattle.rules.specs.declared.line.Relocation.TheVariants.{Plain};
-ghost use Rattle.reading.specs.Filling.{file_read, Lent, ReadInto};
-ghost use Rattle.reading.specs.Lines.{lines_read, fault, RunFrom, Begins, LinesInto, ReadOn};
+ghost use Rattle.reading.specs.Filling.{Lent, ReadInto};
+ghost use Rattle.reading.specs.Lines.{RunFrom, Begins, LinesInto, ReadOn};
 ghost use Rattle.rules.specs.Limits.{longest_file};
 
 use crate::fill::{Filled, nothing};
-use crate::keep::{keep_module, keep_part, keep_section};
+use crate::keep::{IntoTables, Keep, Nowhere};
 use crate::said::said_at;
 use rules::line::{CodeWord, Expected, Relocation};
 use rules::reading::{Mode, Reading, Step, Stop};
@@ -57,31 +57,6 @@ pub struct FileRead {
     pub rows: usize,
 }
 
-// What the reading came to, with the tables as they are filled.
-fn ended(reading: Reading, filled: Filled) -> FileRead
-    ensures { result ≡ file_read reading filled }
-{
-    FileRead {
-        reading,
-        parts: filled.parts,
-        rows: filled.rows,
-    }
-}
-
-// A fault at line n.
-fn stopped(number: u64, n: u32, column: usize, filled: Filled) -> LinesRead
-    ensures { result ≡ lines_read (fault number n column) filled }
-{
-    LinesRead {
-        reached: Err(Stop {
-            number,
-            line: n,
-            column,
-        }),
-        filled,
-    }
-}
-
 // A code word without a relocation.
 fn plain(text: u64) -> CodeWord
     ensures { result ≡ code_word text Plain }
@@ -93,28 +68,26 @@ fn plain(text: u64) -> CodeWord
 }
 
 // Records in their usual form, which need not be looked at one by one where nothing of them is kept.
-fn run_from(file: &[u8], at: usize, here: Mode, keep: bool) -> Run
+fn run_from<K: Keep>(file: &[u8], at: usize, here: Mode) -> Run
     requires { at ≤ length file.now }
-    ensures { RunFrom file.now at here keep result }
+    ensures { RunFrom file.now at here K.keeps result }
 {
-    if keep {
+    if K::keeps() {
         return Run { count: 0, next: at };
     }
-    let expected = here.expected;
-    read_records(file, at, expected, room(here))
+    read_records(file, at, here.expected, room(here))
 }
 
 // Every line is looked at once; what it adds is written at once, so that a fault leaves the tables as they stand there. A code word in
 // its usual form needs no step built for it: most lines are such. Neither does a line that is empty.
-pub fn read_lines(
+pub fn read_lines<K: Keep>(
     file: &[u8],
     from: Place,
-    keep: bool,
     parts: &mut [u64],
     rows: &mut [u64],
 ) -> LinesRead
-    requires { Begins file.now from keep parts.old rows.old }
-    ensures { LinesInto file.now from keep parts.old rows.old result parts.new rows.new }
+    requires { Begins file.now from K.keeps parts.old rows.old }
+    ensures { LinesInto file.now from K.keeps parts.old rows.old result parts.new rows.new }
 {
     let mut mode = from.mode;
     let mut filled = nothing();
@@ -128,46 +101,48 @@ pub fn read_lines(
             continue;
         }
         let here = renewed(mode);
-        let expected = here.expected;
-        let run = run_from(file, at, here, keep);
+        let run = run_from::<K>(file, at, here);
         if 0 < run.count {
             mode = records_done(here, run.count as u16);
             line = n + run.count as u32;
             at = run.next;
             continue;
         }
-        let word = usual_word(file, at, expected);
-        if word.fits {
-            filled = keep_part(keep, parts, filled, word_part(here, plain(word.text)));
+        if let Some(word) = usual_word(file, at, here.expected) {
+            filled = K::part(parts, filled, word_part(here, plain(word.text)));
             mode = record_done(Expected::CodeRecord, here);
             at = word.next;
             continue;
         }
-        let said = said_at(file, at, expected, keep);
-        let answer = said.answer;
-        let step = step_of(n, here, answer);
+        let said = said_at::<K>(file, at, here.expected);
+        let step = step_of(n, here, said.answer);
         at = said.next;
         match step {
-            Step::Stop { number, column } => return stopped(number, n, column, filled),
+            Step::Stop { number, column } => {
+                let reached = Err(Stop {
+                    number,
+                    line: n,
+                    column,
+                });
+                return LinesRead { reached, filled };
+            }
             Step::Next(m) => mode = m,
             Step::Add(m, part) => {
-                filled = keep_part(keep, parts, filled, part);
+                filled = K::part(parts, filled, part);
                 mode = m;
             }
             Step::CloseModule(m, header) => {
-                filled = keep_module(keep, rows, filled, m.section.inside, header);
+                filled = K::module(rows, filled, m.section.inside, header);
                 mode = m;
             }
             Step::CloseSection(m, header) => {
-                filled = keep_section(keep, rows, filled, header);
+                filled = K::section(rows, filled, header);
                 mode = m;
             }
         }
     }
-    LinesRead {
-        reached: Ok(Clean { mode, line }),
-        filled,
-    }
+    let reached = Ok(Clean { mode, line });
+    LinesRead { reached, filled }
 }
 
 // A whole file, into the tables.
@@ -180,12 +155,13 @@ pub fn read_file(file: &[u8], parts: &mut [u64], rows: &mut [u64]) -> FileRead
         line: 1,
         mode: at_start(),
     };
-    let read = read_lines(file, start, true, parts, rows);
-    let filled = read.filled;
-    let reached = read.reached;
-    match reached {
-        Ok(clean) => ended(at_end(clean.line, clean.mode), filled),
-        Err(stop) => ended(Err(stop), filled),
+    let read = read_lines::<IntoTables>(file, start, parts, rows);
+    FileRead {
+        reading: read
+            .reached
+            .and_then(|clean| at_end(clean.line, clean.mode)),
+        parts: read.filled.parts,
+        rows: read.filled.rows,
     }
 }
 
@@ -196,6 +172,6 @@ pub fn read_on(file: &[u8], from: Place) -> Reached
 {
     let mut parts = [0u64; 1];
     let mut rows = [0u64; 1];
-    let read = read_lines(file, from, false, &mut parts, &mut rows);
+    let read = read_lines::<Nowhere>(file, from, &mut parts, &mut rows);
     read.reached
 }

@@ -5,7 +5,6 @@ use native.Mathlib.Numerals.{add-one}
 use native.Mathlib.Omega.{arith}
 use mathlib.Core.Bool.{true}
 use mathlib.Core.List.{List, [], ◌∷◌, ◌++◌, append_assoc}
-use mathlib.Core.Logic.{◌≢◌}
 use mathlib.Core.Path.{◌≡◌, refl, sym, ap, ap₂, ◌∙◌}
 use lib.ListN.{length, take, drop, length-append, take-append-drop}
 use lib.Seq.{drop-cons, drop-drop}
@@ -18,7 +17,7 @@ use Rattle.rules.proofs.TestLaws.{every_add, between_low, all_first, all_rest}
 use Rattle.text.specs.FieldBounds.{is_space}
 use Rattle.text.specs.Scan.{part}
 use Rattle.text.proofs.ScanLaws.{length_part}
-use Rattle.runs.specs.Runs.{Stands, Stretch, FieldEnd, Spelled, ByteFollows, NumberFollows, NextNumber, Numbers, LineStops, LineEnded, IsRecord, LineRead, RecordsRead}
+use Rattle.runs.specs.Runs.{Stands, Stretch, IsField, Spelled, ByteFollows, NumberFollows, Numbers, LineStops, LineEnded, IsRecord, LineRead, RecordsRead}
 use Rattle.runs.proofs.AnswerLaws.{Says, plain_says, pair_says, linked_says, external_says, absolute_says, relocated_says}
 use Rattle.runs.proofs.SpelledLaws.{trailed, number_spelled, name_spelled, byte_spelled, gap_spelled, that_byte, follow_on, numbers_start, numbers_more}
 use Rattle.runs.proofs.StretchLaws.{stretch_start}
@@ -56,6 +55,9 @@ module _ {at end : ℕ} {l : List ℕ} (h : (at ≤ end) × (end ≤ length l)) 
             ∙ ap₂ (add_to_lines CR) (ap starts_lf (drop_at (end + 1) LF l t)) (ends_LF (end + 1) l t)
             ∙ ap (λ (n : ℕ). [] ∷ lines_of (drop n l)) k;
       }
+
+pub line_ended : {at end stop r : ℕ} {l : List ℕ} → Stretch is_space l end stop → LineStops l at stop r → LineEnded l at end r
+line_ended {stop = stop} gap stops = record { stop = stop; gap = gap; stops = stops }
 
 -- ---- the line
 
@@ -99,26 +101,23 @@ line_read {e} {at} {end} {r} {l} says s d =
 -- ---- each record, in the order of its fields
 
 module _ {at end r : ℕ} {l : List ℕ} (d : LineEnded l at end r) where
-  pub external_read : {s : ℕ} → Stretch is_space l at s → FieldEnd is_name l s end → end ≢ s → LineRead ExternalRecord at l r
-  external_read gap n some = line_read (external_says (n.is some)) (gap_spelled gap (name_spelled n some)) d
+  pub external_read : {s : ℕ} → Stretch is_space l at s → IsField is_name l s end → LineRead ExternalRecord at l r
+  external_read gap n = line_read (external_says n.is) (gap_spelled gap (name_spelled n)) d
 
-  pub pair_read : {s m : ℕ} → Stretch is_space l at s → FieldEnd is_number l s m → m ≢ s → NumberFollows l m end → LineRead DataRecord at l r
-  pair_read {s} {m} gap n some last =
-      line_read (pair_says (part s m l) last.text (n.is some) last.is) (last.follow.adds at _ (gap_spelled gap (number_spelled n some))) d
+  pub pair_read : {s m : ℕ} → Stretch is_space l at s → IsField is_number l s m → NumberFollows l m end → LineRead DataRecord at l r
+  pair_read {s} {m} gap n last =
+      line_read (pair_says (part s m l) last.text n.is last.is) (last.follow.adds at _ (gap_spelled gap (number_spelled n))) d
 
-  pub word_read :
-      {s m b c : ℕ} → Stretch is_space l at s → FieldEnd is_number l s m → m ≢ s → NextNumber l m b → b ≢ m → NextNumber l b c → c ≢ b
-      → NextNumber l c end → end ≢ c → LineRead CodeRecord at l r
-  word_read {s} {m} gap n some second h third g last k =
-      let ns = numbers_more (numbers_more (numbers_more (numbers_start m l n.to) second h) third g) last k in
-      line_read (plain_says (part s m l) ns.texts (n.is some) ns.size ns.are)
-      (ns.follow.adds at _ (gap_spelled gap (number_spelled n some))) d
+  pub word_read : {s m : ℕ} → Stretch is_space l at s → IsField is_number l s m → Numbers l m end 3 → LineRead CodeRecord at l r
+  word_read {s} {m} gap n ns =
+      line_read (plain_says (part s m l) ns.texts n.is ns.size ns.are) (ns.follow.adds at _ (gap_spelled gap (number_spelled n))) d
 
   -- with no space in front
   pub near_read :
-      {m b c : ℕ} → FieldEnd is_number l at m → m ≢ at → NextNumber l m b → b ≢ m → NextNumber l b c → c ≢ b → NextNumber l c end → end ≢ c
-      → LineRead CodeRecord at l r
-  near_read n = word_read (stretch_start is_space at l (omega (arith, n.from, n.to))) n
+      {m b c : ℕ} → IsField is_number l at m → NumberFollows l m b → NumberFollows l b c → NumberFollows l c end → LineRead CodeRecord at l r
+  near_read {m} n second third last =
+      word_read (stretch_start is_space at l (omega (arith, n.some, n.to))) n
+      (numbers_more (numbers_more (numbers_more (numbers_start m l n.to) second) third) last)
 
   pub linked_read :
       {s m z k : ℕ} → Stretch is_space l at s → Stands l s 42 → Numbers l (s + 1) m 4 → ByteFollows l m z 48 48 → ByteFollows l z k 49 53
@@ -128,30 +127,18 @@ module _ {at end r : ℕ} {l : List ℕ} (d : LineEnded l at end r) where
       ((follow_on ns.follow (follow_on (that_byte zero) (follow_on kind.follow last.follow))
       ).adds at _ (gap_spelled gap (byte_spelled s 42 l star refl))) d
 
-  module _ {s m k : ℕ} (gap : Stretch is_space l at s) (n : FieldEnd is_name l s m) (some : m ≢ s) (v : NumberFollows l m k) where
+  module _ {s m k : ℕ} (gap : Stretch is_space l at s) (n : IsField is_name l s m) (v : NumberFollows l m k) where
     pub absolute_read : ByteFollows l k end 48 48 → LineRead EntryRecord at l r
     absolute_read zero =
-        line_read (absolute_says (n.is some) v.is)
-        ((follow_on v.follow (that_byte zero)).adds at _ (gap_spelled gap (name_spelled n some))) d
+        line_read (absolute_says n.is v.is)
+        ((follow_on v.follow (that_byte zero)).adds at _ (gap_spelled gap (name_spelled n))) d
 
     pub relocated_read : {j : ℕ} → ByteFollows l k j 49 49 → NumberFollows l j end → LineRead EntryRecord at l r
     relocated_read one last =
-        line_read (relocated_says (n.is some) v.is last.is)
-        ((follow_on v.follow (follow_on (that_byte one) last.follow)).adds at _ (gap_spelled gap (name_spelled n some))) d
+        line_read (relocated_says n.is v.is last.is)
+        ((follow_on v.follow (follow_on (that_byte one) last.follow)).adds at _ (gap_spelled gap (name_spelled n))) d
 
 -- ---- lines in a row
-
-pub read_none : (e : Expected) (at most : ℕ) (l : List ℕ) → at ≤ length l → RecordsRead e at l most (record { count = 0; next = at })
-read_none e at most l h =
-    record {
-      records = [];
-      lines = refl;
-      count = refl;
-      say = tt;
-      few = omega arith;
-      moves = omega arith;
-      ends = h;
-    }
 
 pub read_more :
     {e : Expected} {at most : ℕ} {l : List ℕ} {n i r : ℕ} → RecordsRead e at l most (record { count = n; next = i }) → LineRead e i l r

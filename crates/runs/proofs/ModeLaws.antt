@@ -138,19 +138,18 @@ module _ (m : Mode) where
       one_is_of : (n : Mode) → one_done n ≡ behind 1 n
       one_is_of n = one n.block.offset n.block.count n.object.inside n.object.title n.object.line n.section n.expected n.block.remaining n.block.subs n.object.entries n.object.externals
 
--- the same, put together of what the code makes
+-- the same, as the code makes it
 module _ (m : Mode) where
   pub done :
-      (k : ℕ) → 1 ≤ k → k ≤ room_for m → {w : Expected} → w ≡ cond (leb m.block.remaining k) AnyHeader m.expected
-      → {n : ℕ} → n ≡ m.object.entries + entries_in m.expected k → {x : ℕ} → x ≡ m.object.externals + externals_in m.expected k
-      → mode w (open_block m.block.offset m.block.count (m.block.remaining - k) 0) (open_module m.object.inside m.object.title m.object.line n x) m.section ≡ after_records k m
+      (k : ℕ) → 1 ≤ k → k ≤ room_for m
+      → mode (cond (leb m.block.remaining k) AnyHeader m.expected) (open_block m.block.offset m.block.count (m.block.remaining - k) 0)
+      (open_module m.object.inside m.object.title m.object.line (m.object.entries + entries_in m.expected k) (m.object.externals + externals_in m.expected k))
+      m.section
+      ≡ after_records k m
   unfolding behind
-  done k p h e f g =
+  done k p h =
       let some_k : k ≡ suc (k - 1) = omega arith in
-      same m.block.offset m.block.count m.object.inside m.object.title m.object.line m.section e refl f g
-      ∙ ap (λ (j : ℕ). behind j m) some_k
-      ∙ sym (after_is m (k - 1) (omega (arith, room_most m)))
-      ∙ ap (λ (j : ℕ). after_records j m) (sym some_k)
+      ap (λ (j : ℕ). behind j m) some_k ∙ sym (after_is m (k - 1) (omega (arith, room_most m))) ∙ ap (λ (j : ℕ). after_records j m) (sym some_k)
 
 -- the first of them in front
 pub after_front : (k : ℕ) (m : Mode) → after_records k (one_done m) ≡ after_records (suc k) m

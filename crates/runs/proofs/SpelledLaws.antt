@@ -5,7 +5,6 @@ use native.Mathlib.Nat.{add-zero}
 use native.Mathlib.Omega.{arith}
 use mathlib.Core.Bool.{Bool, true, false, cond}
 use mathlib.Core.List.{List, [], ◌∷◌, ◌++◌, map, map-append, append-nil, append_assoc}
-use mathlib.Core.Logic.{◌≢◌}
 use mathlib.Core.Path.{◌≡◌, refl, sym, ap, ap₂, subst, ◌∙◌}
 use lib.ListN.{length, get_or, length-append}
 use lib.Dec.{eqb}
@@ -17,7 +16,7 @@ use Rattle.text.specs.Scan.{part}
 use Rattle.text.specs.FieldBounds.{is_space}
 use Rattle.text.proofs.FieldLaws.{field}
 use Rattle.text.proofs.ScanLaws.{part_cons, length_part, all_part}
-use Rattle.runs.specs.Runs.{Stands, Stretch, FieldEnd, texts_from, Spelled, Follow, ByteFollows, ByteEnd, NextNumber, Numbers, NumbersEnd}
+use Rattle.runs.specs.Runs.{Stands, Stretch, Gap, IsField, texts_from, Spelled, Follow, ByteFollows, NumberFollows, Numbers}
 use Rattle.runs.proofs.StretchLaws.{part_split, part_one, all_joined, all_one, stretch_start, stretch_step}
 
 -- a byte that is legal and no space
@@ -130,18 +129,18 @@ plain_spelled i r l h g p =
     }
 
 module _ {i r : ℕ} {l : List ℕ} where
-  pub number_spelled : FieldEnd is_number l i r → r ≢ i → Spelled l i r (part i r l ∷ [])
+  pub number_spelled : IsField is_number l i r → Spelled l i r (part i r l ∷ [])
   unfolding is_number
-  number_spelled n some =
-      plain_spelled i r l (omega (arith, n.from)) n.to
-      (all_weaken is_octal is_plain octal_plain (part i r l) (and_left (all is_octal (part i r l)) _ (and_right (between 1 6 (length (part i r l))) _ (n.is some))))
+  number_spelled n =
+      plain_spelled i r l n.some n.to
+      (all_weaken is_octal is_plain octal_plain (part i r l) (and_left (all is_octal (part i r l)) _ (and_right (between 1 6 (length (part i r l))) _ n.is)))
 
-  pub name_spelled : FieldEnd is_name l i r → r ≢ i → Spelled l i r (part i r l ∷ [])
+  pub name_spelled : IsField is_name l i r → Spelled l i r (part i r l ∷ [])
   unfolding is_name_over
-  name_spelled n some =
-      plain_spelled i r l (omega (arith, n.from)) n.to
+  name_spelled n =
+      plain_spelled i r l n.some n.to
       (all_weaken is_name_character is_plain character_plain (part i r l)
-      (and_right (is_letter (get_or (part i r l) 0 0)) _ (and_right (between 1 6 (length (part i r l))) _ (n.is some))))
+      (and_right (is_letter (get_or (part i r l) 0 0)) _ (and_right (between 1 6 (length (part i r l))) _ n.is)))
 
 pub byte_spelled : (i b : ℕ) (l : List ℕ) → Stands l i b → is_plain b ≡ true → Spelled l i (i + 1) ((b ∷ []) ∷ [])
 byte_spelled i b l s p =
@@ -170,8 +169,8 @@ module _ {i s r : ℕ} {l : List ℕ} {ts : List (List ℕ)} (gap : Stretch is_s
         part_cons i r l (omega (arith, f.from)) f.to
         ∙ ap (λ (b : ℕ). b ∷ part (i + 1) r l) (eqb-true _ space (all_part is_space i s i l gap.are (omega arith) some gap.to))
 
-    pub spaced : Follow l i r ts
-    spaced =
+    spaced_by : Follow l i r ts
+    spaced_by =
         record {
           from = omega (arith, f.from);
           to = f.to;
@@ -188,6 +187,9 @@ module _ {i s r : ℕ} {l : List ℕ} {ts : List (List ℕ)} (gap : Stretch is_s
                 legal = all_joined is_legal at i r l h.from (omega (arith, f.from)) h.legal legal_here;
               };
         }
+
+pub spaced : {i s r : ℕ} {l : List ℕ} {ts : List (List ℕ)} → Gap l i s → Spelled l s r ts → Follow l i r ts
+spaced gap f = spaced_by gap.spaces f gap.some
 
 -- ---- spaces behind fields
 
@@ -213,33 +215,19 @@ trailed {at} {e} {s} {l} f gap =
       legal = all_joined is_legal at e s l f.from gap.from f.legal (all_weaken is_space is_legal space_legal (part e s l) gap.are);
     }
 
-one_space : {i : ℕ} {l : List ℕ} → Stands l i space → Stretch is_space l i (i + 1)
-one_space {i} {l} h = stretch_step is_space (stretch_start is_space i l (omega (arith, h.inside))) h.inside (eq-eqb _ space h.is)
-
 -- a field of one byte behind spaces
 pub byte_found :
-    {i s low high : ℕ} {l : List ℕ} → Stretch is_space l i s → s ≢ i → s ≢ length l → (33 ≤ low) × (high ≤ 126) → low ≤ get_or l s 0
-    → get_or l s 0 ≤ high → ByteEnd l i low high (s + 1)
-byte_found {i} {s} {low} {high} {l} gap some more h least most =
-    let inside : s < length l = omega (arith, gap.to) in
+    {i s low high : ℕ} {l : List ℕ} → Gap l i s → s < length l → (33 ≤ low) × (high ≤ 126) → low ≤ get_or l s 0 → get_or l s 0 ≤ high
+    → ByteFollows l i (s + 1) low high
+byte_found {i} {s} {low} {high} {l} gap inside h least most =
     record {
-      from = omega (arith, gap.from);
-      to = omega arith;
-      is =
-          λ x.
-          record {
-            byte = get_or l s 0;
-            least = least;
-            most = most;
-            follow =
-                spaced gap
-                (byte_spelled s (get_or l s 0) l (record { inside = inside; is = refl }) (between_intro 33 126 (get_or l s 0) (omega arith) (omega arith)))
-                (omega (arith, gap.from));
-          };
+      byte = get_or l s 0;
+      least = least;
+      most = most;
+      follow =
+          spaced gap
+          (byte_spelled s (get_or l s 0) l (record { inside = inside; is = refl }) (between_intro 33 126 (get_or l s 0) (omega arith) (omega arith)));
     }
-
-pub no_byte : (i low high : ℕ) (l : List ℕ) → i ≤ length l → ByteEnd l i low high i
-no_byte i low high l h = record { from = omega arith; to = h; is = λ some. absurd (some refl) }
 
 -- where it can be one byte only
 pub that_byte : {i r c : ℕ} {l : List ℕ} → ByteFollows l i r c c → Follow l i r ((c ∷ []) ∷ [])
@@ -255,32 +243,16 @@ follow_on {i} {m} {r} {l} {ts} {us} f g =
       adds = λ at front s. subst (Spelled l at r) (append_assoc front ts us) (g.adds at (front ++ ts) (f.adds at front s));
     }
 
--- a number behind a space, and behind more of them
-number_spaced : {i s r : ℕ} {l : List ℕ} → Stretch is_space l i s → i < s → FieldEnd is_number l s r → r ≢ s → NextNumber l i r
-number_spaced {i} {s} {r} {l} gap some n more =
+pub one_space : {i : ℕ} {l : List ℕ} → Stands l i space → Gap l i (i + 1)
+one_space {i} {l} h =
     record {
-      from = omega (arith, n.from);
-      to = n.to;
-      is = λ x. record { text = part s r l; follow = spaced gap (number_spelled n more) some; is = n.is more };
+      some = omega arith;
+      spaces = stretch_step is_space (stretch_start is_space i l (omega (arith, h.inside))) h.inside (eq-eqb _ space h.is);
     }
 
-module _ {i : ℕ} {l : List ℕ} (h : Stands l i space) where
-  pub near_number_lem : {r : ℕ} → FieldEnd is_number l (i + 1) r → r ≢ i + 1 → NextNumber l i r
-  near_number_lem = number_spaced (one_space h) (omega arith)
-
-  pub far_number_lem : {s r : ℕ} → Stretch is_space l (i + 1) s → FieldEnd is_number l s r → r ≢ s → NextNumber l i r
-  far_number_lem {s} gap =
-      let one = one_space h in
-      number_spaced
-      (record {
-        from = omega (arith, gap.from);
-        to = gap.to;
-        are = all_joined is_space i (i + 1) s l one.from gap.from one.are gap.are;
-      })
-      (omega (arith, gap.from))
-
-pub no_next : (i : ℕ) (l : List ℕ) → i ≤ length l → NextNumber l i i
-no_next i l h = record { from = omega arith; to = h; is = λ some. absurd (some refl) }
+-- a number behind spaces
+pub number_spaced : {i s r : ℕ} {l : List ℕ} → Gap l i s → IsField is_number l s r → NumberFollows l i r
+number_spaced {i} {s} {r} {l} gap n = record { text = part s r l; follow = spaced gap (number_spelled n); is = n.is }
 
 -- ---- numbers, one after the other
 
@@ -293,19 +265,11 @@ numbers_start i l h =
       are = tt;
     }
 
-pub numbers_more : {i m r k : ℕ} {l : List ℕ} → Numbers l i m k → NextNumber l m r → r ≢ m → Numbers l i r (k + 1)
-numbers_more {i} {m} {r} {k} {l} ns n some =
-    let x = n.is some in
+pub numbers_more : {i m r k : ℕ} {l : List ℕ} → Numbers l i m k → NumberFollows l m r → Numbers l i r (k + 1)
+numbers_more ns x =
     record {
       texts = ns.texts ++ (x.text ∷ []);
       follow = follow_on ns.follow x.follow;
       size = length-append ns.texts (x.text ∷ []) ∙ ap (λ (j : ℕ). j + 1) ns.size;
       are = every_add (λ (t : List ℕ). is_number t ≡ true) ns.texts x.text ns.are x.is;
     }
-
-pub numbers_end_lem : {i r k count : ℕ} {l : List ℕ} → Numbers l i r k → k ≡ count → NumbersEnd l i r count
-numbers_end_lem {i} {r} {k} {count} {l} ns e =
-    record { from = ns.follow.from; to = ns.follow.to; are = λ some. subst (Numbers l i r) e ns }
-
-pub no_numbers : (i count : ℕ) (l : List ℕ) → i ≤ length l → NumbersEnd l i i count
-no_numbers i count l h = record { from = omega arith; to = h; are = λ some. absurd (some refl) }

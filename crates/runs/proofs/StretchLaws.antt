@@ -10,12 +10,14 @@ use lib.ListN.{length, get_or, take, drop}
 use lib.Seq.{take-add, drop-drop}
 use lib.Dec.{eqb}
 use borrow.Author.Tests.{le-leb, eqb-true, eqb-false}
+use Rattle.std.specs.Bool.{then_some}
+use Rattle.std.specs.Prelude.{Option, IfSome}
 use Rattle.rules.specs.Text.{all, is_octal, octal, is_number, is_letter, is_digit, is_name_character, is_name, is_name_over}
 use Rattle.rules.proofs.BoolLaws.{or_cases}
 use Rattle.rules.proofs.TestLaws.{and_intro, between_intro, between_low, between_high, all_first, all_rest, all_cons, all_append}
 use Rattle.text.specs.Scan.{part}
 use Rattle.text.proofs.ScanLaws.{part_nil, part_cons, length_part, all_part}
-use Rattle.runs.specs.Runs.{Stretch, FieldEnd}
+use Rattle.runs.specs.Runs.{Stretch, IsField}
 
 -- ---- parts
 
@@ -102,24 +104,21 @@ small (d ∷ ds) h s f = go (eqb (length ds) 5) refl
 
 -- what a test of the bytes from i to e may use: how many there are, and the first of them
 found :
-    {sort : ℕ → Bool} {test : List ℕ → Bool} {i e : ℕ} {l : List ℕ} → Stretch sort l i e
-    → (i < e → length (part i e l) ≡ e - i → get_or (part i e l) 0 0 ≡ get_or l i 0 → test (part i e l) ≡ true) → FieldEnd test l i e
-found {i = i} {e = e} {l = l} s f =
+    {sort : ℕ → Bool} {test : List ℕ → Bool} {i e : ℕ} {l : List ℕ} → Stretch sort l i e → i < e
+    → (length (part i e l) ≡ e - i → get_or (part i e l) 0 0 ≡ get_or l i 0 → test (part i e l) ≡ true) → IsField test l i e
+found {i = i} {e = e} {l = l} s some f =
     record {
-      from = s.from;
+      some = some;
       to = s.to;
-      is =
-          λ some.
-          let more : i < e = omega (arith, s.from) in
-          f more (length_part i e l s.to) (ap (λ (t : List ℕ). get_or t 0 0) (part_cons i e l more s.to));
+      is = f (length_part i e l s.to) (ap (λ (t : List ℕ). get_or t 0 0) (part_cons i e l some s.to));
     }
 
 pub number_found :
-    {i e : ℕ} {l : List ℕ} → Stretch is_octal l i e → e - i ≤ 6 → (e - i ≡ 6 → get_or l i 0 ≤ 49) → FieldEnd is_number l i e
+    {i e : ℕ} {l : List ℕ} → Stretch is_octal l i e → i < e → e - i ≤ 6 → (e - i ≡ 6 → get_or l i 0 ≤ 49) → IsField is_number l i e
 unfolding is_number
-number_found {i} {e} {l} s h f =
-    found s
-    (λ more n first.
+number_found {i} {e} {l} s some h f =
+    found s some
+    (λ n first.
     and_intro
     (between_intro 1 6 (length (part i e l)) (omega arith) (omega arith))
     (and_intro s.are (le-leb _ 65535 (small (part i e l) s.are (omega arith) (λ six. omega (arith, f (omega arith)))))))
@@ -133,16 +132,19 @@ letter b h low =
     (λ h. or_cases (eqb b 36) _ h (λ e. absurd (omega (arith, eqb-true b 36 e))) (λ e. absurd (omega (arith, eqb-true b 46 e)))))
 
 pub name_found :
-    {i e : ℕ} {l : List ℕ} → Stretch is_name_character l i e → e - i ≤ 6 → 65 ≤ get_or l i 0 → FieldEnd is_name l i e
+    {i e : ℕ} {l : List ℕ} → Stretch is_name_character l i e → i < e → e - i ≤ 6 → 65 ≤ get_or l i 0 → IsField is_name l i e
 unfolding is_name_over
-name_found {i} {e} {l} s h low =
-    found s
-    (λ more n first.
+name_found {i} {e} {l} s some h low =
+    found s some
+    (λ n first.
     and_intro
     (between_intro 1 6 (length (part i e l)) (omega arith) (omega arith))
     (and_intro
-    (ap is_letter first ∙ letter (get_or l i 0) (all_part is_name_character i e i l s.are (omega arith) more s.to) low)
+    (ap is_letter first ∙ letter (get_or l i 0) (all_part is_name_character i e i l s.are (omega arith) some s.to) low)
     s.are))
 
-pub no_field : (test : List ℕ → Bool) (i : ℕ) (l : List ℕ) → i ≤ length l → FieldEnd test l i i
-no_field test i l h = record { from = omega arith; to = h; is = λ some. absurd (some refl) }
+-- what holds of a value where a test lets it through
+pub IfSome-from_then_some :
+    {A : Type 0} (P : A → Type 0) {r : Option A} (b : Bool) (x : A) → r ≡ then_some b x → (b ≡ true → P x) → IfSome r P
+IfSome-from_then_some P true x e h = rw e (h refl)
+IfSome-from_then_some P false x e h = rw e tt

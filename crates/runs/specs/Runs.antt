@@ -1,5 +1,5 @@
 -- Records in a row, each of which is what the open block expects.
-use Rattle.std.specs.Prelude.{ℕ, ◌+◌, ◌≤◌, ◌<◌, Bool, true, List, [], ◌∷◌, ◌++◌, map, ◌≢◌, ◌≡◌, length, get_or, drop}
+use Rattle.std.specs.Prelude.{ℕ, ◌+◌, ◌≤◌, ◌<◌, Bool, true, List, [], ◌∷◌, ◌++◌, map, ◌≡◌, length, get_or, drop}
 use Rattle.std.proofs.Math.Option.{Option, none, some}
 use Rattle.rules.specs.Limits.{longest_line}
 use Rattle.rules.specs.Text.{all, is_legal, Field, fields_from, is_number, lines_of}
@@ -26,11 +26,16 @@ pub record Stretch (sort : ℕ → Bool) (file : List ℕ) (i r : ℕ) : Type 0 
   pub to : r ≤ length file
   pub are : all sort (part i r file) ≡ true
 
--- the bytes from i to r pass that test, where there are any
-pub record FieldEnd (test : List ℕ → Bool) (file : List ℕ) (i r : ℕ) : Type 0 where
-  pub from : i ≤ r
+-- spaces from i to r, one at least
+pub record Gap (file : List ℕ) (i r : ℕ) : Type 0 where
+  pub some : i < r
+  pub spaces : Stretch is_space file i r
+
+-- the bytes from i to r, one at least, pass that test
+pub record IsField (test : List ℕ → Bool) (file : List ℕ) (i r : ℕ) : Type 0 where
+  pub some : i < r
   pub to : r ≤ length file
-  pub is : r ≢ i → test (part i r file) ≡ true
+  pub is : test (part i r file) ≡ true
 
 -- the texts of the fields of a text whose first byte stands at column c
 unfoldable pub texts_from : ℕ → List ℕ → List (List ℕ)
@@ -56,21 +61,11 @@ pub record ByteFollows (file : List ℕ) (i r low high : ℕ) : Type 0 where
   pub most : byte ≤ high
   pub follow : Follow file i r ((byte ∷ []) ∷ [])
 
-pub record ByteEnd (file : List ℕ) (i low high r : ℕ) : Type 0 where
-  pub from : i ≤ r
-  pub to : r ≤ length file
-  pub is : r ≢ i → ByteFollows file i r low high
-
 -- a number follows
 pub record NumberFollows (file : List ℕ) (i r : ℕ) : Type 0 where
   pub text : List ℕ
   pub follow : Follow file i r (text ∷ [])
   pub is : is_number text ≡ true
-
-pub record NextNumber (file : List ℕ) (i r : ℕ) : Type 0 where
-  pub from : i ≤ r
-  pub to : r ≤ length file
-  pub is : r ≢ i → NumberFollows file i r
 
 -- so many numbers follow
 pub record Numbers (file : List ℕ) (i r count : ℕ) : Type 0 where
@@ -78,11 +73,6 @@ pub record Numbers (file : List ℕ) (i r count : ℕ) : Type 0 where
   pub follow : Follow file i r texts
   pub size : length texts ≡ count
   pub are : Every (λ t. is_number t ≡ true) texts
-
-pub record NumbersEnd (file : List ℕ) (i r count : ℕ) : Type 0 where
-  pub from : i ≤ r
-  pub to : r ≤ length file
-  pub are : r ≢ i → Numbers file i r count
 
 -- ---- the line's end
 

@@ -1,8 +1,8 @@
-// Fields, found to be right without their values.
-ghost use Rattle.std.specs.Prelude.{◌+◌, ◌≤◌, true, ◌≢◌, ◌≡◌, length};
-ghost use Rattle.rules.specs.Text.{space, is_octal, is_number, is_name};
+// Fields, found to be right without their values: each function answers where the field ends, or `None` where it is not such a field.
+ghost use Rattle.std.specs.Prelude.{◌+◌, ◌≤◌, true, ◌≡◌, length, IfSome};
+ghost use Rattle.rules.specs.Text.{is_octal, is_number, is_name};
 ghost use Rattle.text.specs.FieldBounds.{is_space};
-ghost use Rattle.runs.specs.Runs.{Stands, Stretch, FieldEnd, ByteEnd, NextNumber, NumbersEnd};
+ghost use Rattle.runs.specs.Runs.{Stands, Stretch, Gap, IsField, ByteFollows, NumberFollows, Numbers};
 
 use rules::limits::{LONGEST_NAME, MOST_DIGITS};
 use text::names::is_name_character;
@@ -12,69 +12,62 @@ use text::scan::SPACE;
 pub fn has_byte(file: &[u8], i: usize, byte: u8) -> bool
     ensures { result ≡ true → Stands file.now i byte }
 {
-    if i < file.len() {
-        return file[i] == byte;
-    }
-    false
+    i < file.len() && file[i] == byte
 }
 
 // Is it a digit of a number?
 fn is_octal(byte: u8) -> bool
     ensures { result ≡ is_octal byte }
 {
-    b'0' <= byte && byte <= b'7'
+    matches!(byte, b'0'..=b'7')
 }
 
-// Where the number ends that starts at i, ahead of the file's end by at least as many bytes as a number has: i where there is none. A
-// seventh digit is left to whoever looks for what stands behind. The turns are so few that the compiler writes them out in a row.
-pub fn number_at(file: &[u8], i: usize) -> usize
+// The number at i, ahead of the file's end by at least as many bytes as a number has. A seventh digit is left to whoever looks for what
+// stands behind. The turns are so few that the compiler writes them out in a row.
+pub fn number_at(file: &[u8], i: usize) -> Option<usize>
     requires { i + 6 ≤ length file.now }
-    ensures { FieldEnd is_number file.now i result × (result ≤ i + 6) }
+    ensures field { IfSome result (IsField is_number file.now i) }
+    ensures near { IfSome result (λ end. end ≤ i + 6) }
 {
-    let mut n = 0;
-    while n < MOST_DIGITS {
+    for n in 0..MOST_DIGITS {
         if !is_octal(file[i + n]) {
-            return i + n;
+            return (n > 0).then_some(i + n);
         }
-        n += 1;
     }
     if b'1' < file[i] {
-        return i;
+        return None;
     }
-    i + n
+    Some(i + MOST_DIGITS)
 }
 
-// Where the number ends that starts at i: i where there is none, or where it is one of the file's last bytes. The line is then read as
-// every line can be.
-pub fn number_end(file: &[u8], i: usize) -> usize
+// The number at i: none where it is one of the file's last bytes. The line is then read as every line can be.
+pub fn number_end(file: &[u8], i: usize) -> Option<usize>
     requires { i ≤ length file.now }
-    ensures { FieldEnd is_number file.now i result }
+    ensures { IfSome result (IsField is_number file.now i) }
 {
     if file.len() - i < MOST_DIGITS {
-        return i;
+        return None;
     }
     number_at(file, i)
 }
 
-// Where the name ends that starts at i: as of a number.
-pub fn name_end(file: &[u8], i: usize) -> usize
+// The name at i: as of a number.
+pub fn name_end(file: &[u8], i: usize) -> Option<usize>
     requires { i ≤ length file.now }
-    ensures { FieldEnd is_name file.now i result }
+    ensures { IfSome result (IsField is_name file.now i) }
 {
     if file.len() - i < LONGEST_NAME {
-        return i;
+        return None;
     }
     if file[i] < b'A' {
-        return i;
+        return None;
     }
-    let mut n = 0;
-    while n < LONGEST_NAME {
+    for n in 0..LONGEST_NAME {
         if !is_name_character(file[i + n]) {
-            return i + n;
+            return (n > 0).then_some(i + n);
         }
-        n += 1;
     }
-    i + n
+    Some(i + LONGEST_NAME)
 }
 
 // Where the spaces end that start at i.
@@ -82,100 +75,66 @@ pub fn spaces_end(file: &[u8], i: usize) -> usize
     requires { i ≤ length file.now }
     ensures { Stretch is_space file.now i result }
 {
-    let mut end = i;
-    while end < file.len() {
+    for end in i..file.len() {
         if file[end] != SPACE {
-            break;
+            return end;
         }
-        end += 1;
     }
-    end
+    file.len()
 }
 
-// Where a field of one byte ends that stands behind spaces from i on and is none below `low` and none above `high`: i where there is none.
-pub fn byte_end(file: &[u8], i: usize, low: u8, high: u8) -> usize
+// The same where at least one space stands there.
+pub fn gap_end(file: &[u8], i: usize) -> Option<usize>
+    requires { i ≤ length file.now }
+    ensures { IfSome result (Gap file.now i) }
+{
+    let end = spaces_end(file, i);
+    (i < end).then_some(end)
+}
+
+// A field of one byte behind spaces from i on, which is none below `low` and none above `high`.
+pub fn byte_end(file: &[u8], i: usize, low: u8, high: u8) -> Option<usize>
     requires i_in_bounds { i ≤ length file.now }
     requires le_low { (33 ≤ low) × (high ≤ 126) }
-    ensures { ByteEnd file.now i low high result }
+    ensures { IfSome result (λ end. ByteFollows file.now i end low high) }
 {
-    let start = spaces_end(file, i);
-    if start == i {
-        return i;
+    let start = gap_end(file, i)?;
+    let byte = *file.get(start)?;
+    if low <= byte && byte <= high {
+        Some(start + 1)
+    } else {
+        None
     }
-    if start == file.len() {
-        return i;
-    }
-    let byte = file[start];
-    if byte < low {
-        return i;
-    }
-    if high < byte {
-        return i;
-    }
-    start + 1
 }
 
-// Where the number ends that stands behind one space at i, ahead of the file's end by as many bytes: i where there is none.
-pub fn near_number(file: &[u8], i: usize) -> usize
+// The number behind one space at i, ahead of the file's end by as many bytes.
+pub fn near_number(file: &[u8], i: usize) -> Option<usize>
     requires { i + 7 ≤ length file.now }
-    ensures { NextNumber file.now i result × (result ≤ i + 7) }
+    ensures field { IfSome result (NumberFollows file.now i) }
+    ensures near { IfSome result (λ end. end ≤ i + 7) }
 {
     if file[i] != SPACE {
-        return i;
+        return None;
     }
-    let start = i + 1;
-    let end = number_at(file, start);
-    if end == start {
-        return i;
-    }
-    end
+    number_at(file, i + 1)
 }
 
-// Where the number ends that stands behind spaces from i on: i where there is none.
-pub fn far_number(file: &[u8], i: usize) -> usize
+// The number behind spaces from i on.
+pub fn next_number(file: &[u8], i: usize) -> Option<usize>
     requires { i ≤ length file.now }
-    ensures { NextNumber file.now i result }
+    ensures { IfSome result (NumberFollows file.now i) }
 {
-    if !has_byte(file, i, SPACE) {
-        return i;
-    }
-    let start = spaces_end(file, i + 1);
-    let end = number_end(file, start);
-    if end == start {
-        return i;
-    }
-    end
+    number_end(file, gap_end(file, i)?)
 }
 
-// The same. Most often there is one space.
-pub fn next_number(file: &[u8], i: usize) -> usize
+// So many numbers, each behind spaces, from i on.
+pub fn numbers_end(file: &[u8], i: usize, count: usize) -> Option<usize>
     requires { i ≤ length file.now }
-    ensures { NextNumber file.now i result }
-{
-    if file.len() - i <= MOST_DIGITS {
-        return i;
-    }
-    let near = near_number(file, i);
-    if near != i {
-        return near;
-    }
-    far_number(file, i)
-}
-
-// Where so many numbers end, each behind spaces, from i on: i where they are not there.
-pub fn numbers_end(file: &[u8], i: usize, count: usize) -> usize
-    requires { i ≤ length file.now }
-    ensures { NumbersEnd file.now i result count }
+    ensures { IfSome result (λ end. Numbers file.now i end count) }
 {
     let mut end = i;
-    let mut k = 0;
-    while k < count {
-        let next = next_number(file, end);
-        if next == end {
-            return i;
-        }
-        end = next;
-        k += 1;
+    for _ in 0..count {
+        end = next_number(file, end)?;
     }
-    end
+    Some(end)
 }

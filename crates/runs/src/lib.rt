@@ -7,7 +7,7 @@ pub mod fields;
 pub mod lines;
 pub mod modes;
 
-ghost use Rattle.std.specs.Prelude.{◌≤◌, ◌≢◌, length};
+ghost use Rattle.std.specs.Prelude.{◌≤◌, length, IfSome};
 ghost use Rattle.runs.specs.Runs.{LineRead, RecordsRead};
 
 use crate::lines::{entry, external, pair, word};
@@ -20,17 +20,17 @@ pub struct Run {
     pub next: usize,
 }
 
-// The line at `at`, where it is such a record: where the next line starts, else 0.
-fn usual_line(file: &[u8], at: usize, expected: Expected) -> usize
+// The line at `at`, where it is such a record: where the next line starts.
+fn usual_line(file: &[u8], at: usize, expected: Expected) -> Option<usize>
     requires { at ≤ length file.now }
-    ensures { result ≢ 0 → LineRead expected at file.now result }
+    ensures { IfSome result (LineRead expected at file.now) }
 {
     match expected {
         Expected::CodeRecord => word(file, at),
         Expected::EntryRecord => entry(file, at),
         Expected::ExternalRecord => external(file, at),
         Expected::DataRecord => pair(file, at),
-        _ => 0,
+        _ => None,
     }
 }
 
@@ -39,15 +39,15 @@ pub fn read_records(file: &[u8], at: usize, expected: Expected, most: usize) -> 
     requires { at ≤ length file.now }
     ensures { RecordsRead expected at file.now most result }
 {
-    let mut count = 0;
-    let mut next = at;
-    while count < most {
-        let end = usual_line(file, next, expected);
-        if end == 0 {
-            return Run { count, next };
-        }
-        next = end;
-        count += 1;
+    let mut run = Run { count: 0, next: at };
+    while run.count < most {
+        let Some(next) = usual_line(file, run.next, expected) else {
+            break;
+        };
+        run = Run {
+            count: run.count + 1,
+            next,
+        };
     }
-    Run { count, next }
+    run
 }

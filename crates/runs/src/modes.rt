@@ -5,31 +5,25 @@ ghost use Rattle.runs.specs.Modes.{entries_in, externals_in, after_records, room
 
 use rules::limits::{MOST_ENTRIES, MOST_EXTERNALS};
 use rules::line::Expected;
-use rules::reading::{Mode, OpenBlock, OpenModule, OpenSection};
+use rules::reading::{Mode, OpenBlock, OpenModule};
 
 // The lower of what is to come and what a module has room for, of which so many are there.
 fn lower(remaining: u16, most: u16, there: u16) -> usize
     ensures { result ≡ min remaining (most - there) }
 {
-    if most <= there {
-        return 0;
-    }
-    if most - there < remaining {
-        return (most - there) as usize;
-    }
-    remaining as usize
+    usize::from(remaining.min(most.saturating_sub(there)))
 }
 
 // How many records may follow: those of the open block, and no more entries or externals than a module has room for.
+#[tactic(auto, using(crate::proofs::CaseLaws::no_room_lem), unfolding(crate::specs::Modes::room_by))]
 pub fn room(m: Mode) -> usize
     ensures { result ≡ room_for m }
 {
-    let expected = m.expected;
-    match expected {
-        Expected::CodeRecord => m.block.remaining as usize,
-        Expected::EntryRecord => lower(m.block.remaining, MOST_ENTRIES, m.object.entries),
-        Expected::ExternalRecord => lower(m.block.remaining, MOST_EXTERNALS, m.object.externals),
-        Expected::DataRecord => m.block.remaining as usize,
+    let remaining = m.block.remaining;
+    match m.expected {
+        Expected::CodeRecord | Expected::DataRecord => usize::from(remaining),
+        Expected::EntryRecord => lower(remaining, MOST_ENTRIES, m.object.entries),
+        Expected::ExternalRecord => lower(remaining, MOST_EXTERNALS, m.object.externals),
         _ => 0,
     }
 }
@@ -39,30 +33,28 @@ fn then_expected(m: Mode, k: u16) -> Expected
     ensures { result ≡ cond (leb m.block.remaining k) AnyHeader m.expected }
 {
     if m.block.remaining <= k {
-        return Expected::AnyHeader;
-    }
-    m.expected
-}
-
-fn more_entries(m: Mode, k: u16) -> u16
-    requires { k ≤ room_for m }
-    ensures { result ≡ m.object.entries + entries_in m.expected k }
-{
-    let expected = m.expected;
-    match expected {
-        Expected::EntryRecord => m.object.entries + k,
-        _ => m.object.entries,
+        Expected::AnyHeader
+    } else {
+        m.expected
     }
 }
 
-fn more_externals(m: Mode, k: u16) -> u16
+// The open module behind k more of its records.
+#[tactic(auto, using(crate::proofs::CaseLaws::no_entries, crate::proofs::CaseLaws::no_externals), unfolding(crate::specs::Modes::room_by, crate::specs::Modes::entries_in, crate::specs::Modes::externals_in))]
+fn then_object(m: Mode, k: u16) -> OpenModule
     requires { k ≤ room_for m }
-    ensures { result ≡ m.object.externals + externals_in m.expected k }
+    ensures { result ≡ record m.object { entries = m.object.entries + entries_in m.expected k; externals = m.object.externals + externals_in m.expected k } }
 {
-    let expected = m.expected;
-    match expected {
-        Expected::ExternalRecord => m.object.externals + k,
-        _ => m.object.externals,
+    match m.expected {
+        Expected::EntryRecord => OpenModule {
+            entries: m.object.entries + k,
+            ..m.object
+        },
+        Expected::ExternalRecord => OpenModule {
+            externals: m.object.externals + k,
+            ..m.object
+        },
+        _ => m.object,
     }
 }
 
@@ -74,22 +66,11 @@ pub fn records_done(m: Mode, k: u16) -> Mode
     Mode {
         expected: then_expected(m, k),
         block: OpenBlock {
-            offset: m.block.offset,
-            count: m.block.count,
             remaining: m.block.remaining - k,
             subs: 0,
+            ..m.block
         },
-        object: OpenModule {
-            inside: m.object.inside,
-            title: m.object.title,
-            line: m.object.line,
-            entries: more_entries(m, k),
-            externals: more_externals(m, k),
-        },
-        section: OpenSection {
-            inside: m.section.inside,
-            line: m.section.line,
-            modules: m.section.modules,
-        },
+        object: then_object(m, k),
+        section: m.section,
     }
 }

@@ -42,12 +42,12 @@ clear n = same_sets (clear_flag n)
 
 -- a round flags as many modules as it took
 pub round_counts : {ms : List Module} {n : ℕ} → length ms ≡ n → {flags : List Bool} {old : Refusal} {cells : List ℕ}
-    {r : Round} {after : List ℕ} → Rounded ms flags old cells r after →
-    count (set_of r.flags) n ≡ count (set_of flags) n + r.took
-round_counts {ms} {n} e {flags} {old} {cells} {r} q =
+    {r : Round} {taken : List Bool} {after : List ℕ} → Rounded ms flags old cells r taken after →
+    count (set_of taken) n ≡ count (set_of flags) n + r.took
+round_counts {ms} {n} e {flags} {old} {cells} {r} {taken} q =
     let w : Walk = walk old (decode cells) in
     let d = q.does w (record { refusal_is = refl; state_is = λ _. refl }) in
-    subst (λ k. count (set_of r.flags) k ≡ count (set_of flags) k + r.took) e
+    subst (λ k. count (set_of taken) k ≡ count (set_of flags) k + r.took) e
     (ap (λ t. count t (length ms)) d.taken_is
     ∙ round_took takes place ms (set_of flags) w
     ∙ ap (λ k. count (set_of flags) (length ms) + k) (sym d.took_is))
@@ -69,8 +69,8 @@ module _ (ms : List Module) where
 
   module _ {f : Found Walk} {k took : ℕ} {flags : List Bool} {old : Refusal} {cells : List ℕ}
       (l : Seeking f ms k took flags old cells) where
-    pub seek_next : 0 < took → {r : Round} {after : List ℕ} → Rounded ms flags old cells r after →
-        Seeking f ms (k + 1) r.took r.flags r.refusal after
+    pub seek_next : 0 < took → {r : Round} {taken : List Bool} {after : List ℕ} → Rounded ms flags old cells r taken after →
+        Seeking f ms (k + 1) r.took taken r.refusal after
     seek_next h {r} q =
         let d = q.does l.here l.agrees in
         let s = round takes place ms (set_of flags) l.here in

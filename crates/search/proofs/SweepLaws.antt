@@ -5,20 +5,17 @@ use mathlib.Core.Bool.{Bool, true, false, cond, not, ◌||◌}
 use mathlib.Core.List.{List, [], ◌∷◌}
 use mathlib.Core.Path.{◌≡◌, refl, sym, ap, ap₂, subst, ◌∙◌}
 use lib.ListN.{length, get_or, set}
-use lib.Seq.{get_or-set_same, get_or-set_other, set-get_or}
+use lib.Seq.{get_or-set_same, get_or-set_other}
 use lib.Dec.{eqb}
 use borrow.Author.Tests.{eqb-true, eqb-false}
 use Rattle.rules.specs.Reading.{Module}
 use Rattle.rules.specs.Search.{ModuleSet, with_module, Sweep, sweep_of, visit, sweep, round}
-use Rattle.rules.specs.Load.{Walk, is_needed, takes, place}
+use Rattle.rules.specs.Load.{Walk, takes, place}
 use Rattle.tables.specs.Tables.{module_in, modules_in}
-use Rattle.state.specs.Layout.{decode}
-use Rattle.state.specs.Good.{Good}
 use Rattle.rules.specs.declared.answer.Refusal.{Refusal}
 use Rattle.placing.specs.Walks.{Agrees}
-use Rattle.search.specs.Searching.{VisitIs, Visited, set_of, RoundIs, Swept}
-use Rattle.search.specs.declared.visits.Visit.{Visit}
-use Rattle.search.proofs.VisitLaws.{unneeded_left, visit_left}
+use Rattle.search.specs.declared.library.Library.{Library}
+use Rattle.search.specs.Searching.{Taken, set_of, RoundIs, Swept}
 
 -- ---- the modules of the rows from a row on
 
@@ -54,34 +51,38 @@ flag_set flags i h = same_sets (λ j. go j (eqb i j) refl)
         ap (λ k. get_or (set flags i true) k false) (sym same) ∙ get_or-set_same flags i true false h
     go j false e = get_or-set_other flags i j true false (λ q. eqb-false i j e (sym q))
 
-sweep_same : {t t' : ModuleSet} {n n' : ℕ} {x x' : Walk} → t ≡ t' → n ≡ n' → x ≡ x' → sweep_of t n x ≡ sweep_of t' n' x'
-sweep_same p q r = λ j. sweep_of (p j) (q j) (r j)
-
 -- ---- a visit
 
-module _ (m : Module) (i k : ℕ) (flags : List Bool) (h : i < length flags) (w : Walk) {r : Visit} {after : List ℕ}
-    (t : VisitIs m (get_or flags i false) w r after) where
-  abbrev settled : Bool
-  settled = get_or flags i false || not (takes w m)
+module _ (m : Module) (i k : ℕ) (flags : List Bool) (w : Walk) where
+  abbrev here : Sweep Walk
+  here = sweep_of (set_of flags) k w
 
-  visit_is : visit takes place i m (sweep_of (set_of flags) k w)
-      ≡ sweep_of (set_of (set flags i r.flag)) (k + r.took) (cond settled w (place w m))
+  visit_idle : (get_or flags i false || not (takes w m)) ≡ true → visit takes place i m here ≡ here
   unfolding visit
-  visit_is = go (get_or flags i false) (takes w m) refl t.flag_is t.took_is
-    where
-      go : (f d : Bool) → get_or flags i false ≡ f → r.flag ≡ (f || d) → r.took ≡ cond (f || not d) 0 1 →
-          cond (f || not d) (sweep_of (set_of flags) k w) (sweep_of (with_module i (set_of flags)) (k + 1) (place w m))
-          ≡ sweep_of (set_of (set flags i r.flag)) (k + r.took) (cond (f || not d) w (place w m))
-      go true d e p q =
-          sweep_same (ap set_of (sym (ap (set flags i) (p ∙ sym e) ∙ set-get_or flags i false))) (omega arith) refl
-      go false true e p q =
-          sweep_same (sym (ap (λ b. set_of (set flags i b)) p ∙ flag_set flags i h)) (omega arith) refl
-      go false false e p q =
-          sweep_same (ap set_of (sym (ap (set flags i) (p ∙ sym e) ∙ set-get_or flags i false))) (omega arith) refl
+  visit_idle e = ap (λ b. cond b here (sweep_of (with_module i (set_of flags)) (k + 1) (place w m))) e
+
+  visit_taken : i < length flags → get_or flags i false ≡ false → takes w m ≡ true →
+      visit takes place i m here ≡ sweep_of (set_of (set flags i true)) (k + 1) (place w m)
+  unfolding visit
+  visit_taken h e t =
+      ap₂ (λ b d. cond (b || not d) here (sweep_of (with_module i (set_of flags)) (k + 1) (place w m))) e t
+      ∙ ap (λ u. sweep_of u (k + 1) (place w m)) (sym (flag_set flags i h))
 
 -- ---- a round
 
-module _ (parts rows : List ℕ) (first n : ℕ) where
+module _ (l : Library) where
+  abbrev parts : List ℕ
+  parts = l.tables.parts.now
+
+  abbrev rows : List ℕ
+  rows = l.tables.rows.now
+
+  abbrev first : ℕ
+  first = l.section.first
+
+  abbrev n : ℕ
+  n = l.section.count
+
   -- the modules from the i-th on
   abbrev pub from : ℕ → List Module
   from i = modules_in parts rows (first + i) (n - i)
@@ -99,41 +100,40 @@ module _ (parts rows : List ℕ) (first n : ℕ) where
       }
 
   module _ {s : Sweep Walk} {i k : ℕ} {flags : List Bool} {old : Refusal} {cells : List ℕ}
-      (l : Swept s i k (from i) flags old cells) where
-    pub swept_next : i < n → i < length flags → {r : Visit} {after : List ℕ} →
-        Visited (module_in parts rows (first + i)) (get_or flags i false) old cells r after →
-        Swept s (i + 1) (k + r.took) (from (i + 1)) (set flags i r.flag) r.refusal after
+      (v : Swept s i k (from i) flags old cells) where
+    -- a module that is taken already, or is not to be taken, is passed by
+    pub swept_idle : i < n → ((w : Walk) → Agrees w old cells → (get_or flags i false || not (takes w (module_in parts rows (first + i)))) ≡ true) →
+        {after : List ℕ} → ((w : Walk) → Agrees w old cells → Agrees w old after) → Swept s (i + 1) k (from (i + 1)) flags old after
     unfolding sweep
-    swept_next b h v =
-        let t = v.does l.here l.agrees in
+    swept_idle b idle same =
         let m = module_in parts rows (first + i) in
         record {
-          here = cond (get_or flags i false || not (takes l.here m)) l.here (place l.here m);
-          agrees = t.agrees;
+          here = v.here;
+          agrees = same v.here v.agrees;
           is =
-              ap (sweep takes place (i + 1) (from (i + 1))) (sym (visit_is m i k flags h l.here t))
-              ∙ ap (λ ms. sweep takes place i ms (sweep_of (set_of flags) k l.here)) (sym (modules_next parts rows first n i b))
-              ∙ l.is;
+              ap (sweep takes place (i + 1) (from (i + 1))) (sym (visit_idle m i k flags v.here (idle v.here v.agrees)))
+              ∙ ap (λ ms. sweep takes place i ms (sweep_of (set_of flags) k v.here)) (sym (modules_next parts rows first n i b))
+              ∙ v.is;
         }
 
-    -- a module that is not needed is passed by
-    pub swept_idle : i < n → i < length flags → Good cells →
-        (old.number ≡ 0 → is_needed (decode cells) (module_in parts rows (first + i)) ≡ false) →
-        Swept s (i + 1) k (from (i + 1)) flags old cells
-    swept_idle b h g u =
+    pub swept_taken : i < n → i < length flags → get_or flags i false ≡ false → {t : Refusal} {after : List ℕ} →
+        Taken (module_in parts rows (first + i)) old cells t after → Swept s (i + 1) (k + 1) (from (i + 1)) (set flags i true) t after
+    unfolding sweep
+    swept_taken b h e q =
         let m = module_in parts rows (first + i) in
-        let none : k + 0 ≡ k = omega arith in
-        subst
-        (λ fs. Swept s (i + 1) k (from (i + 1)) fs old cells)
-        (set-get_or flags i false)
-        (subst
-        (λ t. Swept s (i + 1) t (from (i + 1)) (set flags i (get_or flags i false)) old cells)
-        none
-        (swept_next b h (visit_left (unneeded_left m (get_or flags i false) old cells u) g refl)))
+        let d = q.does v.here v.agrees in
+        record {
+          here = place v.here m;
+          agrees = d.1;
+          is =
+              ap (sweep takes place (i + 1) (from (i + 1))) (sym (visit_taken m i k flags v.here h e d.0))
+              ∙ ap (λ ms. sweep takes place i ms (sweep_of (set_of flags) k v.here)) (sym (modules_next parts rows first n i b))
+              ∙ v.is;
+        }
 
-    pub swept_done : n ≤ i → RoundIs s (record { flags = flags; took = k; refusal = old }) cells
+    pub swept_done : n ≤ i → RoundIs s (record { took = k; refusal = old }) flags cells
     unfolding sweep
     swept_done h =
-        subst (λ v. RoundIs v (record { flags = flags; took = k; refusal = old }) cells)
-        (ap (λ ms. sweep takes place i ms (sweep_of (set_of flags) k l.here)) (sym (modules_done parts rows first n i h)) ∙ l.is)
-        (record { taken_is = refl; took_is = refl; agrees = l.agrees })
+        subst (λ u. RoundIs u (record { took = k; refusal = old }) flags cells)
+        (ap (λ ms. sweep takes place i ms (sweep_of (set_of flags) k v.here)) (sym (modules_done parts rows first n i h)) ∙ v.is)
+        (record { taken_is = refl; took_is = refl; agrees = v.agrees })

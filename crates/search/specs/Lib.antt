@@ -1,2 +1,3 @@
+pub mod Libraries
 pub mod Searching
 pub mod Flags

@@ -1,43 +1,35 @@
 -- How the search of a section says what it did: the walk of the definitions, beside a refusal and state memory.
-use Rattle.std.specs.Prelude.{ℕ, suc, ◌+◌, ◌≤◌, ◌<◌, Bool, false, cond, not, ◌&&◌, ◌||◌, List, ◌≡◌, length, get_or, eqb}
-use Rattle.rules.specs.Limits.{most_modules}
-use Rattle.rules.specs.Answers.{DONE}
+use Rattle.std.specs.Prelude.{ℕ, suc, ◌+◌, ◌≤◌, Bool, true, false, cond, List, Option, None, Some, ◌≡◌, length, get_or, eqb}
 use Rattle.rules.specs.Reading.{Module}
 use Rattle.rules.specs.Search.{ModuleSet, Sweep, sweep_of, Found, found, sweep, round, rounds}
-use Rattle.rules.specs.Load.{Walk, is_needed, takes, place, searched}
+use Rattle.rules.specs.Load.{Walk, takes, place, searched}
 use Rattle.rules.specs.declared.answer.Refusal.{Refusal}
-use Rattle.rules.proofs.ReadingLaws.{ModuleSound}
-use Rattle.tables.specs.Tables.{module_in}
-use Rattle.tables.specs.declared.rows.Section.{Section}
-use Rattle.state.specs.Layout.{decode}
 use Rattle.state.specs.Good.{Good}
 use Rattle.placing.specs.Walks.{Agrees}
 use Rattle.search.specs.declared.rounds.Round.{Round}
 use Rattle.search.specs.declared.rounds.Searched.{Searched}
-use Rattle.search.specs.declared.visits.Visit.{Visit}
-
--- the modules of a section, within the limits of the reading
-pub record SectionSound (parts rows : List ℕ) (s : Section) : Type 0 where
-  pub low : s.first ≤ 65535
-  pub short : s.count ≤ most_modules
-  pub sound : (i : ℕ) → i < s.count → ModuleSound (module_in parts rows (s.first + i))
 
 -- ---- a module in turn
 
--- is the module in turn: it is not taken, and the walk goes on and needs it
-unfoldable pub should_take : Bool → Refusal → List ℕ → Module → Bool
-should_take flag refusal cells m = not flag && (eqb refusal.number DONE && is_needed (decode cells) m)
-
--- a visit by a walk: whether the module is taken afterwards, how many were taken now, and how the walk goes on
-pub record VisitIs (m : Module) (flag : Bool) (w : Walk) (r : Visit) (after : List ℕ) : Type 0 where
-  pub flag_is : r.flag ≡ (flag || takes w m)
-  pub took_is : r.took ≡ cond (flag || not (takes w m)) 0 1
-  pub agrees : Agrees (cond (flag || not (takes w m)) w (place w m)) r.refusal after
-
-pub record Visited (m : Module) (flag : Bool) (refusal : Refusal) (before : List ℕ) (r : Visit) (after : List ℕ) : Type 0 where
+-- a walk does not take the module
+pub record LeftOut (m : Module) (refusal : Refusal) (before after : List ℕ) : Type 0 where
   pub good : Good after
-  pub most : r.took ≤ 1
-  pub does : (w : Walk) → Agrees w refusal before → VisitIs m flag w r after
+  pub does : (w : Walk) → Agrees w refusal before → (takes w m ≡ false) × Agrees w refusal after
+
+-- a walk takes it, and goes on by t
+pub record Taken (m : Module) (refusal : Refusal) (before : List ℕ) (t : Refusal) (after : List ℕ) : Type 0 where
+  pub good : Good after
+  pub does : (w : Walk) → Agrees w refusal before → (takes w m ≡ true) × Agrees (place w m) t after
+
+-- a visit to a module that is not taken yet
+abbrev pub Visited : Module → Refusal → List ℕ → Option Refusal → List ℕ → Type 0
+Visited m refusal before None after = LeftOut m refusal before after
+Visited m refusal before (Some t) after = Taken m refusal before t after
+
+-- the refusal behind a visit
+abbrev pub refusal_after : Refusal → Option Refusal → Refusal
+refusal_after refusal None = refusal
+refusal_after refusal (Some t) = t
 
 -- ---- a round, and the rounds of a section
 
@@ -45,15 +37,14 @@ pub record Visited (m : Module) (flag : Bool) (refusal : Refusal) (before : List
 abbrev pub set_of : List Bool → ModuleSet
 set_of flags i = get_or flags i false
 
-pub record RoundIs (s : Sweep Walk) (r : Round) (after : List ℕ) : Type 0 where
-  pub taken_is : set_of r.flags ≡ s.taken
+pub record RoundIs (s : Sweep Walk) (r : Round) (flags : List Bool) (after : List ℕ) : Type 0 where
+  pub taken_is : set_of flags ≡ s.taken
   pub took_is : r.took ≡ s.took
   pub agrees : Agrees s.now r.refusal after
 
-pub record Rounded (ms : List Module) (flags : List Bool) (refusal : Refusal) (before : List ℕ) (r : Round) (after : List ℕ) : Type 0 where
+pub record Rounded (ms : List Module) (flags : List Bool) (refusal : Refusal) (before : List ℕ) (r : Round) (taken : List Bool) (after : List ℕ) : Type 0 where
   pub good : Good after
-  pub long : length r.flags ≡ 256
-  pub does : (w : Walk) → Agrees w refusal before → RoundIs (round takes place ms (set_of flags) w) r after
+  pub does : (w : Walk) → Agrees w refusal before → RoundIs (round takes place ms (set_of flags) w) r taken after
 
 -- on the way through a round that ends in s: the modules from position i on, after those taken so far
 pub record Swept (s : Sweep Walk) (i took : ℕ) (rest : List Module) (flags : List Bool) (refusal : Refusal) (cells : List ℕ) : Type 0 where

@@ -2,50 +2,42 @@
 // none of the module's entries is undefined, so that a round passes it by without a look at its parts. Flags are set when a symbol
 // joins the table undefined: once for each symbol, however many rounds there are. The index of the section's entries tells which
 // module enters a name.
-ghost use Rattle.std.specs.Prelude.{◌≡◌, length, drop, eqb};
-ghost use Rattle.rules.specs.Limits.{most_modules};
+ghost use Rattle.std.specs.Prelude.{◌≡◌, drop, eqb};
 ghost use Rattle.rules.specs.State.{is_undefined};
 ghost use Rattle.state.specs.Layout.{decode};
 ghost use Rattle.state.specs.Good.{Good};
 ghost use Rattle.index.specs.Index.{Indexed};
 ghost use Rattle.search.specs.Flags.{Marked};
 
+use crate::library::Library;
 use index::{find, owner};
+use rules::limits::MODULE_ROOM;
 use state::header::symbol_count;
 use state::table::symbol_at;
 
+// A flag for each module of a section.
+pub type Flags = [bool; MODULE_ROOM];
+
 // The module that enters this name is a candidate.
-fn mark_owner(parts: &[u64], index: &[u16], name: u64, candidates: &mut [u8])
-    requires indexed { Indexed parts.now index.now }
-    requires candidates_len { length candidates.old ≡ most_modules }
-    ensures { Marked parts.now index.now (eqb name) candidates.old candidates.new }
+fn mark_owner(library: Library, name: u64, candidates: &mut Flags)
+    requires { Indexed library.tables.parts.now library.index.now }
+    ensures { Marked library.entry.tables.parts.now library.entry.index.now (eqb name) candidates.old candidates.new }
 {
-    let k = find(parts, index, name);
-    if k == 0 {
-        return;
+    if let Some(entry) = find(library.tables.parts, library.index, name) {
+        candidates[owner(library.index, entry)] = true;
     }
-    candidates[owner(index, k)] = 1;
 }
 
 // So are the modules that enter a name which stands undefined in the table, at position `from` or behind it.
-pub fn mark_undefined(
-    parts: &[u64],
-    index: &[u16],
-    from: usize,
-    state: &[u64],
-    candidates: &mut [u8],
-)
-    requires indexed { Indexed parts.now index.now }
-    requires candidates_len { length candidates.old ≡ most_modules }
+pub fn mark_undefined(library: Library, from: usize, state: &[u64], candidates: &mut Flags)
+    requires indexed { Indexed library.tables.parts.now library.index.now }
     requires good { Good state.now }
-    ensures { Marked parts.now index.now (λ x. is_undefined x (drop from (decode state.now).symbols)) candidates.old candidates.new }
+    ensures { Marked library.entry.tables.parts.now library.entry.index.now (λ x. is_undefined x (drop from (decode state.now).symbols)) candidates.old candidates.new }
 {
-    let mut j = symbol_count(state);
-    while from < j {
-        j -= 1;
-        let s = symbol_at(state, j);
-        if s.defined == 0 {
-            mark_owner(parts, index, s.name, candidates);
+    for j in (from..symbol_count(state)).rev() {
+        let symbol = symbol_at(state, j);
+        if symbol.value.is_none() {
+            mark_owner(library, symbol.name, candidates);
         }
     }
 }

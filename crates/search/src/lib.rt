@@ -2,6 +2,7 @@
 #![tactic(auto)]
 
 pub mod candidates;
+pub mod library;
 pub mod modules;
 pub mod rounds;
 pub mod visits;

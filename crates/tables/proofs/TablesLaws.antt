@@ -1,13 +1,8 @@
 -- A part's two cells decode to that part.
-use Prim.Native.Nat.{ℕ, ◌+◌, ◌-◌, ◌*◌, ◌/◌, ◌%◌, ◌<◌, ◌≤◌, min}
+use Prim.Native.Nat.{ℕ, ◌+◌, ◌*◌, ◌/◌, ◌%◌, ◌<◌, ◌≤◌}
 use native.Mathlib.Omega.{arith}
 use mathlib.Core.Bool.{Bool, true, false, cond}
-use mathlib.Core.Path.{◌≡◌, refl, sym, ap, ◌∙◌}
-use native.Mathlib.Nat.{lt_of_not-le}
-use native.Mathlib.Decide.{dec_le}
-use mathlib.Core.List.{List, []}
-use lib.ListN.{length, take, drop, length-drop, drop_of_length-le}
-use lib.Seq.{take_all, take-nil}
+use mathlib.Core.Path.{◌≡◌, refl}
 use Rattle.rules.specs.Line.{code_word}
 use Rattle.rules.specs.declared.line.Entry.{Entry}
 use Rattle.rules.specs.declared.line.Relocation.TheVariants.{Plain, External, Unread}
@@ -70,33 +65,3 @@ part_back _ (reference_fits a t k h j) =
 part_back _ (unread_fits a t k h j) =
     let n : ℕ = a + 131072 * k in
     rw (kind_back 7 n (omega arith), numbers_back 7 n (omega arith), address_back a k h, number_back a k h j)
-
--- ---- a range that passes the end of a table
-
-shorter : (n m : ℕ) (l : List ℕ) → length l ≤ n → length l ≤ m → take n l ≡ take m l
-shorter n m l h k = take_all n l h ∙ sym (take_all m l k)
-
--- the range from s to e, cut at the length
-pub range_cut : (s e : ℕ) (l : List ℕ) →
-    take (min e (length l) - min s (min e (length l))) (drop (min s (min e (length l))) l) ≡ take (e - s) (drop s l)
-range_cut s e l = elim (dec_le s (min e (length l))) [
-  | yes h ↦
-      let start : min s (min e (length l)) ≡ s = omega arith in
-      rw start (go h (dec_le e (length l)))
-  | no h ↦
-      let size : min e (length l) - min s (min e (length l)) ≡ 0 = omega arith in
-      rw size (sym (past (lt_of_not-le h) (dec_le e (length l))))
-]
-  where
-    go : s ≤ min e (length l) → Dec (e ≤ length l) → take (min e (length l) - s) (drop s l) ≡ take (e - s) (drop s l)
-    go h (yes k) = let same : min e (length l) ≡ e = omega arith in rw same
-    go h (no k) =
-        let long = lt_of_not-le k in
-        shorter (min e (length l) - s) (e - s) (drop s l) (omega (arith, length-drop s l)) (omega (arith, length-drop s l))
-
-    past : min e (length l) < s → Dec (e ≤ length l) → take (e - s) (drop s l) ≡ []
-    past h (yes k) = let none : e - s ≡ 0 = omega arith in rw none
-    past h (no k) =
-        let long = lt_of_not-le k in
-        let beyond : length l ≤ s = omega arith in
-        ap (take (e - s)) (drop_of_length-le l beyond) ∙ take-nil (e - s)

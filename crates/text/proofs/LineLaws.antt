@@ -7,12 +7,12 @@ use mathlib.Core.List.{List, [], ◌∷◌}
 use mathlib.Core.Path.{◌≡◌, refl, sym, ap, ap₂, ◌∙◌}
 use lib.ListN.{length, take, drop, get_or, length-drop, drop_of_length-le}
 use lib.Seq.{drop-drop, get_or-drop}
-use lib.Dec.{eqb}
-use borrow.Author.Tests.{eq-eqb, ne_eqb, eqb-true}
+use lib.Dec.{eqb, ltb}
+use borrow.Author.Tests.{eq-eqb, ne_eqb, eqb-true, eqb-false, ltb-true, ltb-false}
 use Rattle.rules.specs.Text.{LF, CR, lines_of, widen_line, legal_front}
 use Rattle.rules.proofs.LineEndLaws.{starts_lf, add_to_lines, lines_nil, lines_cons}
 use Rattle.text.specs.Scan.{part, run, past, is_not, Found}
-use Rattle.text.specs.LineEnds.{line_next, NextLine, is_legal, legal_end, front_of}
+use Rattle.text.specs.LineEnds.{line_next, line_stop, NextLine, is_legal, legal_end, front_of}
 use Rattle.text.proofs.ScanLaws.{part_nil, part_all, part_front, run_yes, run_no, run_take, past_through, and_false}
 
 -- how many bytes stand before the first LF
@@ -265,3 +265,42 @@ module _ (at lf : ℕ) (file : List ℕ) (f : Found at (length file) (past (is_n
           (get_or file (lf - 1) 0 ≡ CR → ⊥) → {k : ℕ} → k ≡ legal_front 80 (part at lf file)
           → NextLine at file (record { stop = lf; next = lf + 1; front = k })
       stops_LF e = stops_at lf h (size_is false (ne_eqb _ _ e))
+
+-- the line as the code puts it together
+module _ {at illegal lf : ℕ} {file : List ℕ} (h : at < length file) (i : Found at (length file) (legal_end at (length file) file) illegal)
+    (g : Found illegal (length file) (past (is_not LF) illegal (length file) file) lf) where
+  pub line_is : {s n k : ℕ} → s ≡ line_stop at lf file → n ≡ min (length file) (lf + 1) → k ≡ front_of at illegal s → NextLine at file (record { stop = s; next = n; front = k })
+  line_is {s} {n} {k} e f c = go (ltb at lf) refl (ltb lf (length file)) refl (eqb (get_or file (lf - 1) 0) CR) refl
+    where
+      l : Found at (length file) (past (is_not LF) at (length file) file) lf
+      l = LF_behind at illegal lf file i g
+
+      front : (stop : ℕ) → s ≡ stop → at ≤ stop → stop ≤ length file → k ≡ legal_front 80 (part at stop file)
+      front stop d low high = c ∙ ap (front_of at illegal) d ∙ front_is at stop illegal file low high i
+
+      go : (p : Bool) → ltb at lf ≡ p → (q : Bool) → ltb lf (length file) ≡ q → (r : Bool) → eqb (get_or file (lf - 1) 0) CR ≡ r
+          → NextLine at file (record { stop = s; next = n; front = k })
+      go p t false u r v =
+          let d : s ≡ lf = simp (u, and_false (ltb at lf)) at e in
+          let last : lf ≡ length file = omega (arith, ltb-false lf (length file) u, g.most) in
+          let m : n ≡ lf = omega arith in
+          rw (d, m) (stops_with_file at lf file l h last (front lf d l.least l.most))
+      go false t true u r v =
+          let d : s ≡ lf = simp (t) at e in
+          let more = ltb-true lf (length file) u in
+          let m : n ≡ lf + 1 = omega arith in
+          let here : lf ≡ at = omega (arith, ltb-false at lf t, l.least) in
+          let none : k ≡ 0 = omega (arith, c, d) in
+          rw (d, m, none) (stops_empty at lf file l more here)
+      go true t true u true v =
+          let d : s ≡ lf - 1 = simp (t, u, v) at e in
+          let more = ltb-true lf (length file) u in
+          let m : n ≡ lf + 1 = omega arith in
+          let some = ltb-true at lf t in
+          rw (d, m) (stops_CRLF at lf file l more (λ x. omega arith) (eqb-true _ _ v) (front (lf - 1) d (omega arith) (omega arith)))
+      go true t true u false v =
+          let d : s ≡ lf = simp (t, u, v) at e in
+          let more = ltb-true lf (length file) u in
+          let m : n ≡ lf + 1 = omega arith in
+          let some = ltb-true at lf t in
+          rw (d, m) (stops_LF at lf file l more (λ x. omega arith) (eqb-false _ _ v) (front lf d l.least l.most))

@@ -10,7 +10,7 @@ use Rattle.std.specs.Prelude.{Option}
 use mathlib.Core.Path.{◌≡◌, refl, sym, ap, ap₂, ◌∙◌}
 use lib.ListN.{length, drop, get_or}
 use lib.Dec.{leb}
-use borrow.Author.Tests.{eq-eqb, ne_eqb, leb-true}
+use borrow.Author.Tests.{eq-eqb, ne_eqb, leb-true, leb-false}
 use Rattle.rules.specs.Text.{space, all, is_octal, octal, is_number, number_of}
 use Rattle.text.specs.Scan.{part, past, is_not, InFile}
 use Rattle.text.specs.FieldBounds.{is_space, field_start, field_stop}
@@ -113,7 +113,7 @@ pub number_short : (f : List ℕ) → length f ≡ 0 → none ≡ number_of f
 unfolding is_number
 number_short f e = no_number f (too_short f _ e)
 
-pub number_long : (f : List ℕ) → 6 < length f → none ≡ number_of f
+number_long : (f : List ℕ) → 6 < length f → none ≡ number_of f
 unfolding is_number
 number_long f h = no_number f (too_long f _ h)
 
@@ -131,17 +131,22 @@ number_is t h g e = simp (between_yes 1 6 (length t) h g, e)
 
 -- a text that is read whole, and one that is not
 module _ (f : List ℕ) {r : DigitRun} (d : DigitsRead 0 (length f) f r) where
-  pub number_broken : length f ≤ 6 → (r.end ≡ length f → ⊥) → none ≡ number_of f
+  pub number_broken : (r.end ≡ length f → ⊥) → none ≡ number_of f
   unfolding is_number
-  number_broken h n =
-      let e : r.end < length f = omega (arith, d.to) in
-      let b = d.stops e (omega arith) in
-      no_number f (simp (all_drop r.end f (all_stop is_octal r.end f e b), and_false))
+  number_broken n = go (leb (length f) 6) refl
+    where
+      go : (t : Bool) → leb (length f) 6 ≡ t → none ≡ number_of f
+      go true h =
+          let few = leb-true (length f) 6 h in
+          let e : r.end < length f = omega (arith, d.to) in
+          let b = d.stops e (omega arith) in
+          no_number f (simp (all_drop r.end f (all_stop is_octal r.end f e b), and_false))
+      go false h = number_long f (leb-false (length f) 6 h)
 
-  pub number_whole : (length f ≡ 0 → ⊥) → length f ≤ 6 → r.end ≡ length f → small r.value ≡ number_of f
-  number_whole h g e =
+  pub number_whole : (length f ≡ 0 → ⊥) → r.end ≡ length f → small r.value ≡ number_of f
+  number_whole h e =
       let t : part 0 r.end f ≡ f = ap (λ (k : ℕ). part 0 k f) e ∙ part_all 0 f in
-      ap small (d.value ∙ ap (octal 0) t) ∙ number_is f (omega arith) g (ap (all is_octal) (sym t) ∙ d.digits)
+      ap small (d.value ∙ ap (octal 0) t) ∙ number_is f (omega arith) (omega (arith, d.few)) (ap (all is_octal) (sym t) ∙ d.digits)
 
 -- ---- the field
 

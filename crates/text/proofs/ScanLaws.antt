@@ -188,6 +188,10 @@ module _ (p : ℕ → Bool) where
         most = omega (arith, length_part at e l i.size, i.order);
       }
 
+-- a position in a line
+pub in_line : (at : ℕ) (l : List ℕ) → at ≤ length l → InFile at (length l) l
+in_line at l h = record { order = h; size = omega arith }
+
 -- what the loop of a scan keeps at the position i that it has come to
 pub record Scanned (p : ℕ → Bool) (at e : ℕ) (l : List ℕ) (i : ℕ) : Type 0 where
   pub from : at ≤ i

@@ -1,13 +1,17 @@
 -- Where the line that starts at a position of the file stops, and where the next one starts.
-use Rattle.std.specs.Prelude.{ℕ, ◌+◌, ◌-◌, ◌≤◌, ◌<◌, min, Bool, List, ◌∷◌, ◌≡◌, length, drop}
+use Rattle.std.specs.Prelude.{ℕ, ◌+◌, ◌-◌, ◌≤◌, ◌<◌, min, Bool, cond, ◌&&◌, List, ◌∷◌, ◌≡◌, length, drop, get_or, eqb, ltb}
 use Rattle.rules.specs.Limits.{longest_line}
-use Rattle.rules.specs.Text.{LF, between, lines_of, legal_front}
+use Rattle.rules.specs.Text.{LF, CR, between, lines_of, legal_front}
 use Rattle.text.specs.Scan.{part, past, is_not}
 use Rattle.text.specs.declared.lines.LineSpan.{LineSpan}
 
 -- where the next line starts: behind the first LF, or at the file's end
 unfoldable pub line_next : ℕ → List ℕ → ℕ
 line_next at file = min (past (is_not LF) at (length file) file + 1) (length file)
+
+-- where the line from `at` stops, whose LF, or else the file's end, is at lf: one CR just before an LF is dropped
+abbrev pub line_stop : ℕ → ℕ → List ℕ → ℕ
+line_stop at lf file = cond (ltb at lf && (ltb lf (length file) && eqb (get_or file (lf - 1) 0) CR)) (lf - 1) lf
 
 -- the line that starts at `at` is the first of those that are left, and the others start at next; `front` of its bytes are
 -- legal before one is not, or 80

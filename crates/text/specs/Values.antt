@@ -1,5 +1,5 @@
 -- What a field reads as: a number, a name, or neither.
-use Rattle.std.specs.Prelude.{ℕ, ◌<◌, cond, List, ◌≡◌, get_or, leb, Some, None, Option as Answer}
+use Rattle.std.specs.Prelude.{ℕ, cond, leb, Some, None, Option as Answer}
 use Rattle.std.proofs.Math.Option.{Option, none, some}
 use Rattle.rules.specs.Limits.{largest_number}
 
@@ -11,8 +11,3 @@ value_in None = none
 -- a value as a number, where it is at most 177777
 abbrev pub small : ℕ → Option ℕ
 small v = cond (leb v largest_number) (some v) none
-
--- r is the byte at k, 0 past the end
-pub record ByteAt (s : List ℕ) (k r : ℕ) : Type 0 where
-  pub is : r ≡ get_or s k 0
-  pub small : r < 256

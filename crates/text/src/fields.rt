@@ -1,34 +1,34 @@
 // The fields of a line.
-ghost use Rattle.std.specs.Prelude.{◌≡◌};
-ghost use Rattle.text.specs.Scan.{InFile, Found};
+ghost use Rattle.std.specs.Prelude.{◌≡◌, ◌≤◌, length};
+ghost use Rattle.text.specs.Scan.{Found};
 ghost use Rattle.text.specs.FieldBounds.{field_start, NextField};
 
 use crate::scan::{SPACE, find_byte, front};
 
-// Where the next field of the line starts: `stop` where there is none.
-pub fn field_start(file: &[u8], at: usize, stop: usize) -> usize
-    requires { InFile at stop file.now }
-    ensures { Found at stop (field_start at stop file.now) result }
+// Where the next field of the line starts: with the line's end where there is none.
+pub fn field_start(line: &[u8], at: usize) -> usize
+    requires { at ≤ length line.now }
+    ensures { Found at (length line.now) (field_start at (length line.now) line.now) result }
 {
-    at + front(&file[at..stop], |b| b == SPACE)
+    at + front(&line[at..], |b| b == SPACE)
 }
 
-// The next field of the line, as that part of the file: empty where there is none.
-pub fn next_field<'a>(file: &'a [u8], at: usize, stop: usize) -> &'a [u8]
-    requires { InFile at stop file.now }
-    ensures { NextField at stop file.entry result }
+// The next field of the line, as that part of it: empty where there is none.
+pub fn next_field<'a>(line: &'a [u8], at: usize) -> &'a [u8]
+    requires { at ≤ length line.now }
+    ensures { NextField at (length line.now) line.entry result }
 {
-    let start = field_start(file, at, stop);
-    let end = find_byte(file, start, stop, SPACE);
-    &file[start..end]
+    let start = field_start(line, at);
+    let end = find_byte(line, start, SPACE);
+    &line[start..end]
 }
 
-// The field of the line that starts at `from`, as that part of the file, where the start is known.
-pub fn field_from<'a>(file: &'a [u8], from: usize, stop: usize) -> &'a [u8]
-    requires in_file { InFile from stop file.now }
-    requires file_value { field_start from stop file.now ≡ from }
-    ensures { NextField from stop file.entry result }
+// The field of the line that starts at `from`, as that part of it, where the start is known.
+pub fn field_from<'a>(line: &'a [u8], from: usize) -> &'a [u8]
+    requires in_line { from ≤ length line.now }
+    requires starts { field_start from (length line.now) line.now ≡ from }
+    ensures { NextField from (length line.now) line.entry result }
 {
-    let end = find_byte(file, from, stop, SPACE);
-    &file[from..end]
+    let end = find_byte(line, from, SPACE);
+    &line[from..end]
 }

@@ -1,8 +1,7 @@
 // The lines of a file.
-ghost use Rattle.std.specs.Prelude.{◌≡◌, ◌<◌, ◌≤◌, min, length};
-ghost use Rattle.rules.specs.Limits.{longest_line};
-ghost use Rattle.text.specs.Scan.{InFile, Found};
-ghost use Rattle.text.specs.LineEnds.{legal_end, front_of, NextLine};
+ghost use Rattle.std.specs.Prelude.{◌≡◌, ◌<◌, ◌≤◌, length};
+ghost use Rattle.text.specs.Scan.{Found};
+ghost use Rattle.text.specs.LineEnds.{legal_end, line_stop, NextLine};
 
 use crate::scan::{CR, LF, SPACE, TILDE, find_byte, front};
 use rules::limits::LONGEST_LINE;
@@ -16,67 +15,36 @@ pub struct LineSpan {
     pub front: usize,
 }
 
-// The first position from `at` on whose byte is illegal, or `end`.
-fn legal_end(file: &[u8], at: usize, end: usize) -> usize
-    requires { InFile at end file.now }
-    ensures { Found at end (legal_end at end file.now) result }
+// The first position from `at` on whose byte is illegal, or the file's end.
+fn legal_end(file: &[u8], at: usize) -> usize
+    requires { at ≤ length file.now }
+    ensures { Found at (length file.now) (legal_end at (length file.now) file.now) result }
 {
-    at + front(&file[at..end], |b| SPACE <= b && b <= TILDE)
+    at + front(&file[at..], |b| SPACE <= b && b <= TILDE)
 }
 
-fn at_most_a_line(n: usize) -> usize
-    ensures { result ≡ min longest_line n }
+// Where the line that starts at `at` stops, whose LF, or else the file's end, is at `lf`. A CR is dropped only just before an LF.
+fn line_stop(file: &[u8], at: usize, lf: usize) -> usize
+    requires { lf ≤ length file.now }
+    ensures { result ≡ line_stop at lf file.now }
 {
-    if LONGEST_LINE < n {
-        return LONGEST_LINE;
+    if at < lf && lf < file.len() && file[lf - 1] == CR {
+        return lf - 1;
     }
-    n
+    lf
 }
 
-// How many legal bytes stand at the front of the line, at most 80, where the next illegal byte of the file is at `illegal`.
-fn legal_front(at: usize, illegal: usize, stop: usize) -> usize
-    requires { (at ≤ illegal) × (at ≤ stop) }
-    ensures { result ≡ front_of at illegal stop }
-{
-    if illegal < stop {
-        return at_most_a_line(illegal - at);
-    }
-    at_most_a_line(stop - at)
-}
-
-// The line that starts at `at`. A CR is dropped only just before an LF. An LF is an illegal byte itself, so one pass finds both.
+// The line that starts at `at`. An LF is an illegal byte itself, so one pass finds both.
 pub fn next_line(file: &[u8], at: usize) -> LineSpan
     requires { at < length file.now }
     ensures { NextLine at file.now result }
 {
-    let end = file.len();
-    let illegal = legal_end(file, at, end);
-    let lf = find_byte(file, illegal, end, LF);
-    if lf == end {
-        return LineSpan {
-            stop: lf,
-            next: lf,
-            front: legal_front(at, illegal, lf),
-        };
-    }
-    if lf == at {
-        return LineSpan {
-            stop: lf,
-            next: lf + 1,
-            front: 0,
-        };
-    }
-    let last = lf - 1;
-    if file[last] == CR {
-        return LineSpan {
-            stop: last,
-            next: lf + 1,
-            front: legal_front(at, illegal, last),
-        };
-    }
+    let illegal = legal_end(file, at);
+    let lf = find_byte(file, illegal, LF);
+    let stop = line_stop(file, at, lf);
     LineSpan {
-        stop: lf,
-        next: lf + 1,
-        front: legal_front(at, illegal, lf),
+        stop,
+        next: file.len().min(lf + 1),
+        front: LONGEST_LINE.min(illegal.min(stop) - at),
     }
 }

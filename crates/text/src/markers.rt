@@ -3,46 +3,39 @@ ghost use Rattle.std.specs.Prelude.{◌≡◌, [], ◌∷◌};
 ghost use Rattle.rules.specs.Text.{same_text};
 ghost use Rattle.rules.specs.Line.{marker_of};
 
-use crate::scan::position;
-
-fn same_text(a: &[u8], b: &[u8]) -> bool
-    ensures { result ≡ same_text a.now b.now }
+// The marker of the block with this code, empty where there is no such block.
+#[tactic(auto, unfolding(rules::specs::Text::bytes, rules::specs::Line::headers, rules::specs::Line::row_in, rules::specs::Line::row_of, rules::specs::Line::marker_in))]
+pub fn marker_text(code: u16) -> &'static [u8]
+    ensures { result.now ≡ marker_of code }
 {
-    if a.len() != b.len() {
-        return false;
+    match code {
+        0 => b"***CODE",
+        1 => b"***END",
+        3 => b"***TITLE",
+        4 => b"***ENTRY",
+        5 => b"***EXT",
+        6 => b"***LSB",
+        7 => b"***LEB",
+        8 => b"***DBDB",
+        9 => b"***DBIB",
+        10 => b"***FPB",
+        11 => b"***AENTRY",
+        _ => b"",
     }
-    let mut i = 0;
-    while i < a.len() {
-        if a[i] != b[i] {
-            return false;
-        }
-        i += 1;
-    }
-    true
 }
 
-// Where the marker of each block starts in the text of all markers, by its code; it stops where the next one starts.
-// No block has code 2. A table is built anew at each use: bytes are quicker than numbers.
-const STARTS: [u8; 13] = [0, 7, 13, 13, 21, 29, 35, 41, 47, 54, 61, 67, 76];
-
 // Is the field the marker of the block with this code? Where there is no such block, the marker is empty.
+#[tactic(auto, using(crate::proofs::MarkerLaws::same_is))]
 pub fn is_marker(field: &[u8], code: u16) -> bool
     ensures { result ≡ same_text field.now (marker_of code) }
 {
-    if 11 < code {
-        return field.len() == 0;
-    }
-    let k = code as usize;
-    let start = position(STARTS[k]);
-    let stop = position(STARTS[k + 1]);
-    let markers: &[u8] =
-        b"***CODE***END***TITLE***ENTRY***EXT***LSB***LEB***DBDB***DBIB***FPB***AENTRY";
-    same_text(field, &markers[start..stop])
+    field == marker_text(code)
 }
 
 // Is the field an asterisk?
+#[tactic(auto, using(crate::proofs::MarkerLaws::same_is))]
 pub fn is_star(field: &[u8]) -> bool
     ensures { result ≡ same_text field.now (42 ∷ []) }
 {
-    same_text(field, b"*")
+    field == b"*".as_slice()
 }

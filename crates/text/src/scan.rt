@@ -1,6 +1,6 @@
 // Scanning over the file.
 ghost use Rattle.std.specs.Prelude.{◌≡◌, ◌≤◌, ◌<◌, ℕ, true, false, length, slice_index};
-ghost use Rattle.text.specs.Scan.{InFile, Found, is_not, past};
+ghost use Rattle.text.specs.Scan.{Found, is_not, past};
 
 pub const LF: u8 = 10;
 
@@ -26,17 +26,10 @@ pub fn front<F: Fn(u8) -> bool>(bytes: &[u8], passes: F) -> usize
     bytes.len()
 }
 
-// The first position from `at` on with that byte, or `stop`.
-pub fn find_byte(file: &[u8], at: usize, stop: usize, byte: u8) -> usize
-    requires { InFile at stop file.now }
-    ensures { Found at stop (past (is_not byte) at stop file.now) result }
+// The first position from `at` on with that byte, or the text's end.
+pub fn find_byte(text: &[u8], at: usize, byte: u8) -> usize
+    requires { at ≤ length text.now }
+    ensures { Found at (length text.now) (past (is_not byte) at (length text.now) text.now) result }
 {
-    at + front(&file[at..stop], |b| b != byte)
-}
-
-// A byte of a table, as a position.
-pub fn position(byte: u8) -> usize
-    ensures { result ≡ byte }
-{
-    byte as usize
+    at + front(&text[at..], |b| b != byte)
 }

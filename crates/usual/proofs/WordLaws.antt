@@ -22,8 +22,8 @@ use Rattle.text.specs.LineEnds.{is_legal, legal_end}
 use Rattle.text.specs.Values.{small}
 use Rattle.text.specs.Digits.{DigitsRead, FieldRead}
 use Rattle.text.specs.declared.numbers.DigitRun.{DigitRun}
-use Rattle.text.specs.declared.numbers.Number.TheVariants.{Value}
-use Rattle.text.proofs.ScanLaws.{past_stop, past_step, past_end, past_nearer, past_through, past_over, Scanned, scan_start, scan_stop, between_yes}
+use Rattle.std.specs.Prelude.{Some}
+use Rattle.text.proofs.ScanLaws.{past_stop, past_step, past_end, past_nearer, past_through, past_over, between_yes}
 use Rattle.text.proofs.FieldLaws.{start_least}
 use Rattle.text.proofs.LineLaws.{front_is, LF_behind, stops_LF, stops_CRLF}
 use Rattle.text.proofs.NumberLaws.{digits_nearer, digit_low, line_ends, space_ends}
@@ -31,8 +31,7 @@ use Rattle.line.specs.Fitting.{line_fields, end_column}
 use Rattle.line.proofs.PeekLaws.{star_not}
 use Rattle.line.proofs.RecordLaws.{Quarters, quarters_start, quarters_room, quarters_step, quarters_end}
 use Rattle.line.proofs.AnswerLaws.{all_legal, line_shaped, line_whole}
-use Rattle.usual.specs.Words.{parts, Ending, by_LF, by_two, LineEnded, WordRead}
-use Rattle.usual.specs.declared.UsualWord.{UsualWord}
+use Rattle.usual.specs.Words.{parts, Ending, by_LF, by_two, WordRead}
 
 -- where quarters are read up to i, a digit stands at both ends, and the line's fields start with the first
 pub record Around (at : ℕ) (file : List ℕ) (i : ℕ) : Type 0 where
@@ -50,7 +49,7 @@ pub record Front (at : ℕ) (file : List ℕ) (text i k : ℕ) : Type 0 where
   pub inside : i ≤ length file
   pub parted : 0 < k → (i < length file) × (parts (k - 1) (get_or file i 0) ≡ true)
   pub around : 0 < k → Around at file i
-  pub legal : Scanned is_legal at (length file) file i
+  pub legal : past is_legal i (length file) file ≡ past is_legal at (length file) file
   pub quarters : (stop : ℕ) → i ≤ stop → stop ≤ length file → (4 ≤ k → stop ≡ i) → Quarters at stop file text i k
 
 pub front_start : (at : ℕ) (file : List ℕ) → at ≤ length file → Front at file 0 at 0
@@ -62,7 +61,7 @@ front_start at file h =
       inside = h;
       parted = λ p. absurd (omega arith);
       around = λ p. absurd (omega arith);
-      legal = scan_start is_legal at (length file) file h (omega arith);
+      legal = refl;
       quarters = λ stop f g e. quarters_start at stop file (record { order = f; size = g });
     }
 
@@ -128,7 +127,7 @@ module _ {at : ℕ} {file : List ℕ} {text i k : ℕ} (q : Front at file text i
 
     module _ (most : r.value ≤ 65535) (ended : r.end ≡ length file → ⊥) (b : parts k (get_or file r.end 0) ≡ true) where
       -- the digits are a field, wherever the line stops
-      field : (stop : ℕ) → r.end ≤ stop → stop ≤ length file → (4 ≤ k + 1 → stop ≡ r.end) → FieldRead s stop file (record { number = Value r.value; end = r.end })
+      field : (stop : ℕ) → r.end ≤ stop → stop ≤ length file → (4 ≤ k + 1 → stop ≡ r.end) → FieldRead s stop file (record { number = Some r.value; end = r.end })
       field stop a c last = go (eqb r.end stop) refl
         where
           inside : InFile s stop file
@@ -140,7 +139,7 @@ module _ {at : ℕ} {file : List ℕ} {text i k : ℕ} (q : Front at file text i
           value : some r.value ≡ small r.value
           value = simp (le-leb r.value 65535 most)
 
-          go : (t : Bool) → eqb r.end stop ≡ t → FieldRead s stop file (record { number = Value r.value; end = r.end })
+          go : (t : Bool) → eqb r.end stop ≡ t → FieldRead s stop file (record { number = Some r.value; end = r.end })
           go true e = line_ends inside nearer some_digit (eqb-true _ _ e) value
           go false e =
               let ne = eqb-false _ _ e in
@@ -189,13 +188,7 @@ module _ {at : ℕ} {file : List ℕ} {text i k : ℕ} (q : Front at file text i
             inside = d.to;
             parted = λ p. let n : k + 1 - 1 ≡ k = omega arith in (omega (arith, d.to), rw n b);
             around = λ p. around_more;
-            legal =
-                record {
-                  from = omega (arith, q.from, f.least, more);
-                  to = d.to;
-                  size = omega arith;
-                  same = all_legal_so_far ∙ q.legal.same;
-                };
+            legal = all_legal_so_far ∙ q.legal;
             quarters =
                 λ stop a c last.
                 quarters_step
@@ -246,7 +239,12 @@ module _ {at : ℕ} {file : List ℕ} {text i k : ℕ} (q : Front at file text i
       module _ (bad : is_legal byte ≡ false) where
         illegal : Found at (length file) (legal_end at (length file) file) i
         unfolding legal_end
-        illegal = scan_stop q.legal front_behind bad
+        illegal =
+            record {
+              is = sym (past_stop is_legal i (length file) file front_behind (omega arith) bad) ∙ q.legal;
+              least = q.from;
+              most = q.inside;
+            }
 
         front : ℕ
         front = legal_front 80 (part at i file)
@@ -255,19 +253,18 @@ module _ {at : ℕ} {file : List ℕ} {text i k : ℕ} (q : Front at file text i
         unfolding front
         all_front = omega (arith, front_is at i i file q.from q.inside illegal)
 
-        says : {x : ℕ} → x ≡ text → Code (code_word x Plain) ≡ line_answer CodeRecord (part at i file)
+        says : Code (code_word text Plain) ≡ line_answer CodeRecord (part at i file)
         unfolding front
-        says e =
-            ap (λ (x : ℕ). Code (code_word x Plain)) e
-            ∙ line_whole CodeRecord whole refl fields_say_lem (all_legal front (i - at) _ all_front)
+        says =
+            line_whole CodeRecord whole refl fields_say_lem (all_legal front (i - at) _ all_front)
 
         -- the line's LF stands at lf
         ends_line : (lf : ℕ) → i ≤ lf → lf < length file → past (is_not LF) i (length file) file ≡ lf
             → Found at (length file) (past (is_not LF) at (length file) file) lf
         ends_line lf a b e = LF_behind at i lf file illegal (record { is = sym e; least = a; most = omega arith })
 
-      word_LF : {r : UsualWord} → r.text ≡ text → byte ≡ LF → r.next ≡ i + 1 → WordRead CodeRecord at file r
-      word_LF w e n =
+      word_LF : {next : ℕ} → byte ≡ LF → next ≡ i + 1 → WordRead CodeRecord at file (record { text = text; next = next })
+      word_LF e n =
           let bad = ap is_legal e in
           let stops = past_stop (is_not LF) i (length file) file front_behind (omega arith) (ap (is_not LF) e) in
           record {
@@ -276,13 +273,13 @@ module _ {at : ℕ} {file : List ℕ} {text i k : ℕ} (q : Front at file text i
                 stops_LF at i file (ends_line bad i (omega arith) front_behind stops) front_behind
                 (λ x. omega (arith, ends.order, at_first)) (λ x. omega (arith, ends.last)) refl;
             follows = sym n;
-            says = says bad w;
+            says = says bad;
           }
 
       word_CRLF :
-          {r : UsualWord} → r.text ≡ text → (byte ≡ LF → ⊥) → i + 1 < length file → get_or file (i + 1) 0 ≡ LF → r.next ≡ i + 2
-          → WordRead CodeRecord at file r
-      word_CRLF w x g f n =
+          {next : ℕ} → (byte ≡ LF → ⊥) → i + 1 < length file → get_or file (i + 1) 0 ≡ LF → next ≡ i + 2
+          → WordRead CodeRecord at file (record { text = text; next = next })
+      word_CRLF x g f n =
           let e : byte ≡ CR = a_CR (k - 1) byte (omega arith) (q.parted (omega arith)).1 x in
           let bad = ap is_legal e in
           let stops =
@@ -295,12 +292,9 @@ module _ {at : ℕ} {file : List ℕ} {text i k : ℕ} (q : Front at file text i
                 stops_CRLF at (i + 1) file (ends_line bad (i + 1) (omega arith) g stops) g (λ y. omega (arith, q.from))
                 (ap (λ (j : ℕ). get_or file j 0) one ∙ e) refl;
             follows = omega arith;
-            says = rw one (says bad w);
+            says = rw one (says bad);
           }
 
-      pub front_end : {r : UsualWord} → (r.fits ≡ true → LineEnded file i text r) → r.fits ≡ true → WordRead CodeRecord at file r
-      front_end {r} f t = go (f t).ends
-        where
-          go : Ending file i r.next → WordRead CodeRecord at file r
-          go (by_LF e n) = word_LF (f t).kept e n
-          go (by_two x g e n) = word_CRLF (f t).kept x g e n
+      pub front_end : {next : ℕ} → Ending file i next → WordRead CodeRecord at file (record { text = text; next = next })
+      front_end (by_LF e n) = word_LF e n
+      front_end (by_two x g e n) = word_CRLF x g e n

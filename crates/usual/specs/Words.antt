@@ -19,10 +19,6 @@ pub data Ending (file : List ℕ) (end next : ℕ) : Type 0 where
   by_LF : get_or file end 0 ≡ LF → next ≡ end + 1 → Ending file end next
   by_two : (get_or file end 0 ≡ LF → ⊥) → end + 1 < length file → get_or file (end + 1) 0 ≡ LF → next ≡ end + 2 → Ending file end next
 
-pub record LineEnded (file : List ℕ) (end text : ℕ) (r : UsualWord) : Type 0 where
-  pub kept : r.text ≡ text
-  pub ends : Ending file end r.next
-
 -- the line at `at` says this word, and the next one starts at next
 pub record WordRead (expected : Expected) (at : ℕ) (file : List ℕ) (r : UsualWord) : Type 0 where
   pub span : LineSpan

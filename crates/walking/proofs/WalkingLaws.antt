@@ -18,10 +18,11 @@ use Rattle.tables.specs.Tables.{kind_in, free_row, section_row, line_in, start_i
 use Rattle.tables.specs.declared.rows.Section.{Section}
 use Rattle.rules.specs.declared.answer.Refusal.{Refusal}
 use Rattle.state.specs.Good.{Good}
-use Rattle.index.specs.Index.{size, Tested}
+use Rattle.index.specs.Index.{Tested}
 use Rattle.placing.specs.Walks.{PlacedRow}
 use Rattle.placing.proofs.PlacedLaws.{goes_on_lem, stands}
-use Rattle.search.specs.Searching.{SectionSound, Sought}
+use Rattle.search.specs.Libraries.{SectionSound}
+use Rattle.search.specs.Searching.{Sought}
 use Rattle.search.proofs.SeekLaws.{length_modules}
 use Rattle.search.specs.declared.rounds.Searched.{Searched}
 use Rattle.walking.specs.declared.WalkSoFar.{WalkSoFar}
@@ -34,10 +35,10 @@ module _ (at : ℕ) (ms : List Module) (old : Refusal) where
   unfolding test_section
   tested_refused z = record { does = λ w cells a. rw (stands a z) a }
 
-  pub tested_twice : old.number ≡ 0 → twice (section_names ms) ≡ true → (k : ℕ) → k ≡ at → TestedSection at ms old (refusal 13 k)
+  pub tested_twice : old.number ≡ 0 → twice (section_names ms) ≡ true → {n k : ℕ} → n ≡ 13 → k ≡ at → TestedSection at ms old (refusal n k)
   unfolding test_section
-  tested_twice e t k q =
-      record { does = λ w cells a. rw (goes_on_lem a e, t) (record { refusal_is = ap (refusal 13) q; state_is = λ z. absurd (omega arith) }) }
+  tested_twice e t {n} {k} o q =
+      record { does = λ w cells a. rw (goes_on_lem a e, t) (record { refusal_is = ap₂ refusal o q; state_is = λ z. absurd (omega arith) }) }
 
   pub tested_once : old.number ≡ 0 → twice (section_names ms) ≡ false → TestedSection at ms old old
   unfolding test_section
@@ -45,11 +46,11 @@ module _ (at : ℕ) (ms : List Module) (old : Refusal) where
 
 -- what the index knows after the test
 module _ {parts rows : List ℕ} {s : Section} {index : List ℕ} where
-  pub known_refused : {r : Refusal} → length index ≡ size → r.number ≢ 0 → Known parts rows s r index
-  known_refused h z = record { long = h; owns = λ e. absurd (z e) }
+  pub known_refused : {r : Refusal} → r.number ≢ 0 → Known parts rows s r index
+  known_refused z = record { owns = λ e. absurd (z e) }
 
   pub known_tested : {r : Refusal} {b : Bool} → Tested parts rows s.first s.count b index → b ≡ false → Known parts rows s r index
-  known_tested t f = record { long = t.long; owns = λ _. t.owns f }
+  known_tested t f = record { owns = λ _. t.owns f }
 
 -- ---- a section's rows
 
@@ -84,12 +85,11 @@ module _ (parts rows : List ℕ) (row : ℕ) {s : Section} (o : RowsOf rows row 
           sound = module_sound parts rows s.first s.count members.0;
         }
 
-    pub section_indexable : length parts ≤ 131072 → {index : List ℕ} → length index ≡ size → Indexable parts rows s index
-    section_indexable p h =
+    pub section_indexable : length parts ≤ 131072 → Indexable parts rows s
+    section_indexable p =
         record {
           parts_few = p;
           few = λ k l. few_names _ (module_sound parts rows s.first s.count members.0 k l);
-          long = h;
         }
 
 -- ---- an item

@@ -10,7 +10,7 @@ use Rattle.tables.specs.Tables.{most_cells, kind_in, free_row, section_row, modu
 use Rattle.tables.specs.declared.rows.Section.{Section}
 use Rattle.state.specs.Good.{Good}
 use Rattle.placing.specs.Walks.{Agrees}
-use Rattle.index.specs.Index.{size, Owns}
+use Rattle.index.specs.Index.{Owns}
 use Rattle.walking.specs.declared.WalkSoFar.{WalkSoFar}
 
 -- ---- how many rounds there can be, so that no sum of them wraps
@@ -52,14 +52,12 @@ pub record TestedSection (line : ℕ) (ms : List Module) (refusal : Refusal) (r 
   pub does : (w : Walk) (cells : List ℕ) → Agrees w refusal cells → Agrees (test_section line ms w) r cells
 
 -- modules that the index of their entries has room for
-pub record Indexable (parts rows : List ℕ) (s : Section) (index : List ℕ) : Type 0 where
+pub record Indexable (parts rows : List ℕ) (s : Section) : Type 0 where
   pub parts_few : length parts ≤ most_cells
   pub few : (i : ℕ) → i < s.count → length (entry_names (module_in parts rows (s.first + i))) ≤ most_entries
-  pub long : length index ≡ size
 
 -- in a walk that goes on, the index has the entries of the modules
 pub record Known (parts rows : List ℕ) (s : Section) (refusal : Refusal) (index : List ℕ) : Type 0 where
-  pub long : length index ≡ size
   pub owns : refusal.number ≡ DONE → Owns parts rows s.first s.count index
 
 -- ---- the rows

@@ -1,20 +1,15 @@
--- `framing::text_end` meets its contract: the bytes are those of the text, one by one.
--- Assumes nothing.
-use borrow.Author.Rules.{rules}
-use Rattle.framing.proofs.FramingLaws.{text_start, text_step, text_found, no_text}
+-- `framing::text_end` meets its contract: the bytes are those of the text.
+use Prim.Native.Nat.{◌+◌}
+use lib.ListN.{length}
+use mathlib.Core.Path.{◌∙◌, sym}
+use Rattle.text.specs.Scan.{part}
+use Rattle.runs.proofs.StretchLaws.{IfSome-from_then_some}
+use Rattle.framing.specs.Framing.{TextEnds}
+use Rattle.framing.proofs.FramingLaws.{text_found}
 use Rattle.framing.proofs.text_end.Goals as goal
 
-pub returns-then-file-i : goal.returns-then-file-i
-returns-then-file-i c = no_text _ _ _ c.requires
-
-pub loop-k-init : goal.loop-k-init
-loop-k-init c = (search rules, text_start _ _ _)
-
-pub returns-then-file-i-2 : goal.returns-then-file-i-2
-returns-then-file-i-2 c = no_text _ _ _ c.requires
-
-pub loop-k-preserved : goal.loop-k-preserved
-loop-k-preserved c = (search rules, text_step _ _ _ _ c.loop-k.invariant.1 (search rules) (search rules) c.if-file-i-2.false)
-
 pub returns : goal.returns
-returns c = text_found _ _ _ _ c.loop-k.invariant.1 (search rules) (search rules)
+unfolding part
+returns c =
+    IfSome-from_then_some (TextEnds c.args.file.now c.args.i c.args.text.now) c.starts_with.result (c.args.i + length c.args.text.now) c.then_some.ensures
+    (λ t. text_found _ _ _ (sym t ∙ c.starts_with.ensures.value) (c.starts_with.ensures.bound t) c.requires)

@@ -1,18 +1,21 @@
-use native.Mathlib.Omega.{arith}
-use mathlib.Core.Path.{sym, ◌∙◌}
+use mathlib.Core.Path.{sym, ap, ◌∙◌}
+use Rattle.rules.specs.Answers.{reason_number}
 use Rattle.tables.specs.Tables.{modules_in}
-use Rattle.walking.proofs.WalkingLaws.{tested_refused, tested_twice, tested_once, known_refused, known_tested}
+use Rattle.walking.proofs.WalkingLaws.{tested_refused, tested_twice, tested_once}
 use Rattle.walking.proofs.test_section.Goals as goal
 
-pub returns-then-refusal-ne-DONE : goal.returns-then-refusal-ne-DONE
-returns-then-refusal-ne-DONE c = (tested_refused _ (modules_in c.args.parts.now c.args.rows.now c.args.section.first c.args.section.count) c.args.refusal c.if-refusal-ne-DONE.true, known_refused c.requires.indexable.long c.if-refusal-ne-DONE.true)
+pub returns-then-refusal-ne-DONE-clause-tested : goal.returns-then-refusal-ne-DONE-clause-tested
+returns-then-refusal-ne-DONE-clause-tested c =
+    let t = c.args.tables in
+    tested_refused _ (modules_in t.parts.now t.rows.now c.args.section.first c.args.section.count) c.args.refusal c.if-refusal-ne-DONE.true
 
-pub returns-then-repeats : goal.returns-then-repeats
-returns-then-repeats c =
-    let a = c.args in
-    (tested_twice _ (modules_in a.parts.now a.rows.now a.section.first a.section.count) a.refusal c.if-refusal-ne-DONE.false (sym c.repeats.ensures.is ∙ c.if-repeats.true) c.row_line.result c.row_line.ensures, known_refused c.repeats.ensures.long (λ e. omega (arith, e)))
+pub returns-in-Ok-clause-tested : goal.returns-in-Ok-clause-tested
+returns-in-Ok-clause-tested c =
+    let t = c.args.tables in
+    tested_once _ (modules_in t.parts.now t.rows.now c.args.section.first c.args.section.count) c.args.refusal c.if-refusal-ne-DONE.false (sym c.in-Ok.ensures.tested.is)
 
-pub returns : goal.returns
-returns c =
-    let a = c.args in
-    (tested_once _ (modules_in a.parts.now a.rows.now a.section.first a.section.count) a.refusal c.if-refusal-ne-DONE.false (sym c.repeats.ensures.is ∙ c.if-repeats.false), known_tested c.repeats.ensures c.if-repeats.false)
+pub returns-in-Err-clause-tested : goal.returns-in-Err-clause-tested
+returns-in-Err-clause-tested c =
+    let t = c.args.tables in
+    tested_twice _ (modules_in t.parts.now t.rows.now c.args.section.first c.args.section.count) c.args.refusal c.if-refusal-ne-DONE.false
+    (sym c.in-Err.ensures.tested.is) (c.number.ensures ∙ ap reason_number c.in-Err.ensures.reason) c.line.ensures

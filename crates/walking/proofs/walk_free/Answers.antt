@@ -1,7 +1,7 @@
 use Rattle.walking.proofs.WalkingLaws.{free_walked}
 use Rattle.walking.proofs.walk_free.Goals as goal
 
-pub returns : goal.returns
-returns c =
-    let a = c.args in
-    (free_walked a.parts.now a.rows.now a.row a.far c.place_row-after.result _ _ c.place_row-after.ensures.0, c.place_row-after.ensures.1)
+pub returns-clause-advances : goal.returns-clause-advances
+returns-clause-advances c =
+    let t = c.args.tables in
+    free_walked t.parts.now t.rows.now c.args.row c.args.far c.place_row.result _ _ c.place_row.ensures.0

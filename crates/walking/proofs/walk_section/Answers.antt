@@ -1,19 +1,23 @@
-use native.Mathlib.Omega.{arith}
 use Rattle.walking.proofs.WalkingLaws.{section_is, section_fits, section_indexable, section_walked}
 use Rattle.walking.proofs.walk_section.Goals as goal
 
-pub test_section-tested-requires : goal.test_section-tested-requires
-test_section-tested-requires c =
-    let o = c.section_of-section.ensures in
-    record { row_lt_most_rows = c.requires.row_lt_most_rows.0; section_sound = section_fits c.args.parts.now c.args.rows.now c.args.row o c.requires.item_sound; indexable = section_indexable c.args.parts.now c.args.rows.now c.args.row o c.requires.item_sound c.requires.parts_len_bound.0 c.requires.parts_len_bound.1 }
+pub test_section-tested-requires-clause-section_sound : goal.test_section-tested-requires-clause-section_sound
+test_section-tested-requires-clause-section_sound c =
+    let t = c.args.tables in
+    section_fits t.parts.now t.rows.now c.args.row c.section-section.ensures c.requires.item_sound
 
-pub search-found-requires : goal.search-found-requires
-search-found-requires c = record { section_sound = section_fits c.args.parts.now c.args.rows.now c.args.row c.section_of-section.ensures c.requires.item_sound; owns = c.test_section-tested.ensures.1.owns; good = c.requires.good }
+pub test_section-tested-requires-clause-indexable : goal.test_section-tested-requires-clause-indexable
+test_section-tested-requires-clause-indexable c =
+    let t = c.args.tables in
+    section_indexable t.parts.now t.rows.now c.args.row c.section-section.ensures c.requires.item_sound c.requires.parts_len_bound
 
-pub overflow_add-result : goal.overflow_add-result
-overflow_add-result c = omega (arith, c.search-found.ensures.0.most, c.requires.row_lt_most_rows.1)
+pub search-found-requires-clause-library_sound : goal.search-found-requires-clause-library_sound
+search-found-requires-clause-library_sound c =
+    let t = c.args.tables in
+    section_fits t.parts.now t.rows.now c.args.row c.section-section.ensures c.requires.item_sound
 
-pub returns : goal.returns
-returns c =
-    let a = c.args in
-    (section_walked a.parts.now a.rows.now a.row a.far _ c.test_section-tested.result c.search-found.result _ _ (section_is a.parts.now a.rows.now a.row c.section_of-section.ensures) c.test_section-tested.ensures.0 c.search-found.ensures.0, c.test_section-tested.ensures.1.long, c.search-found.ensures.1)
+pub returns-clause-advances : goal.returns-clause-advances
+returns-clause-advances c =
+    let t = c.args.tables in
+    section_walked t.parts.now t.rows.now c.args.row c.args.far _ c.test_section-tested.result c.search-found.result _ _
+    (section_is t.parts.now t.rows.now c.args.row c.section-section.ensures) c.test_section-tested.ensures.tested c.search-found.ensures.sought

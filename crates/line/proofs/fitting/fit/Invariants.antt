@@ -1,9 +1,5 @@
-use Rattle.line.specs.Fitting.{letters_in}
 use Rattle.line.proofs.FitLaws.{Kept}
 use Rattle.line.proofs.fitting.fit.Given as goal
 
-abbrev pub invariant-loop-left : goal.invariant-loop-left
-invariant-loop-left l = Kept (letters_in l.kinds) l.at l.stop l.file l.numbers l.names l.i l.k l.left
-
-abbrev pub decreases-loop-left : goal.decreases-loop-left
-decreases-loop-left l = l.left
+abbrev pub invariant-loop-k : goal.invariant-loop-k
+invariant-loop-k l = Kept l.kinds l.line l.numbers l.i l.k

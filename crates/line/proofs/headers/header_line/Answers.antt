@@ -1,22 +1,22 @@
 -- `line::headers::header_line` meets its contract: by its code.
 -- Assumes nothing.
-use mathlib.Core.Path.{sym, ◌∙◌}
-use native.Mathlib.Omega.{arith}
-use Rattle.line.proofs.HeaderLaws.{known_small, header_blank, header_no, header_unknown, header_known}
 use borrow.Author.Rules.{rules}
+use Rattle.rules.specs.Line.{shape_for, row_at, header_shape_in}
+use Rattle.line.specs.Fitting.{shape_said}
+use Rattle.line.proofs.PeekLaws.{first_is}
 use Rattle.line.proofs.headers.header_line.Goals as goal
 
-pub returns-then-start-stop : goal.returns-then-start-stop
-returns-then-start-stop c = header_blank c.requires c.field_start-start.ensures.is c.if-start-stop.true
+pub returns-in_default : goal.returns-in_default
+unfolding shape_for shape_said row_at header_shape_in
+returns-in_default c =
+    rw (← c.fault_at-unknown.ensures, first_is _ _ c.requires, ← c.next_field.ensures.bytes, ← c.read_number.ensures, c.in_default.is)
 
-pub read_as-requires : goal.read_as-requires
-read_as-requires c = record { in_file = search rules; shape_bound = omega (arith, known_small _ (sym c.is_block.ensures ∙ c.if-is_block.true)) }
+pub returns-in_err-block_line : goal.returns-in_err-block_line
+unfolding shape_for row_at
+returns-in_err-block_line c =
+    rw (← c.fault_at-unknown.ensures, first_is _ _ c.requires, ← c.next_field.ensures.bytes, ← c.read_number.ensures, c.in-Some.is) (search (rules, c.in_err-block_line.ensures))
 
-pub returns-then-is_block : goal.returns-then-is_block
-returns-then-is_block c = header_known c.requires c.field_start-start.ensures.is (search rules) _ c.next_field.ensures.bytes c.read_number.ensures c.in-Value.is c.is_block.ensures c.if-is_block.true c.read_as.ensures
-
-pub returns-else-is_block : goal.returns-else-is_block
-returns-else-is_block c = header_unknown c.requires c.field_start-start.ensures.is (search rules) _ c.next_field.ensures.bytes c.read_number.ensures c.in-Value.is c.is_block.ensures c.if-is_block.false c.bad.ensures
-
-pub returns-in-NotANumber : goal.returns-in-NotANumber
-returns-in-NotANumber c = header_no c.requires c.field_start-start.ensures.is (search rules) _ c.next_field.ensures.bytes c.read_number.ensures c.in-NotANumber.is c.bad-in-NotANumber.ensures
+pub returns : goal.returns
+unfolding shape_for row_at
+returns c =
+    rw (← c.fault_at-unknown.ensures, first_is _ _ c.requires, ← c.next_field.ensures.bytes, ← c.read_number.ensures, c.in-Some.is) c.in_ok-block_line.ensures

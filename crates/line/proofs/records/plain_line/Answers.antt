@@ -1,43 +1,35 @@
--- `line::records::plain_line` meets its contract: at each quarter what is left decides. Four quarters fit a u64.
+-- `line::records::plain_line` meets its contract: four quarters and no more.
 -- Assumes nothing.
 use native.Mathlib.Omega.{arith}
 use borrow.Author.Rules.{rules}
-use Rattle.line.proofs.RecordLaws.{quarters_start, quarters_room, quarters_few, quarters_wrong, quarters_step, quarters_many, quarters_end}
+use Rattle.line.proofs.RecordLaws.{quarters_room, plain_start, plain_wrong, plain_more, plain_many, plain_end}
 use Rattle.line.proofs.records.plain_line.Goals as goal
 
-pub loop-k-init : goal.loop-k-init
-loop-k-init c = quarters_start _ _ _ c.requires.in_file
+pub loop-init : goal.loop-init
+loop-init c = plain_start _
 
-pub returns-then-start-stop : goal.returns-then-start-stop
-returns-then-start-stop c =
-    quarters_few c.loop-k.invariant (search rules) c.field_start-start.ensures.is
-    (search rules) c.if-start-stop.true c.bad.ensures
+pub number_at-requires : goal.number_at-requires
+number_at-requires c = c.loop.invariant.fitting.to
+
+pub returns-in_err-quarter : goal.returns-in_err-quarter
+returns-in_err-quarter c =
+    search (rules, plain_wrong c.loop.invariant c.loop-test.true c.in_err-quarter.ensures c.requires)
 
 pub overflow_mul-text : goal.overflow_mul-text
-overflow_mul-text c = omega (arith, quarters_room c.loop-k.invariant (search rules))
+overflow_mul-text c = omega (arith, quarters_room c.loop.invariant c.loop-test.true)
 
 pub overflow_add-text : goal.overflow_add-text
-overflow_add-text c = omega (arith, quarters_room c.loop-k.invariant (search rules))
+overflow_add-text c = omega (arith, quarters_room c.loop.invariant c.loop-test.true)
 
-pub loop-k-preserved : goal.loop-k-preserved
-loop-k-preserved c =
-    quarters_step c.loop-k.invariant (search rules)
-    c.field_start-start.ensures.is (search rules) c.field_number-field.ensures c.in-Value.is
-    (search rules)
+pub loop-preserved : goal.loop-preserved
+loop-preserved c = plain_more c.loop.invariant c.loop-test.true c.in_ok-quarter.ensures (search rules)
 
-pub returns-in-NotANumber : goal.returns-in-NotANumber
-returns-in-NotANumber c =
-    quarters_wrong c.loop-k.invariant (search rules)
-    c.field_start-start.ensures.is (search rules) c.field_number-field.ensures (search rules)
-    c.in-NotANumber.is
-    c.bad-in-NotANumber.ensures
+pub no_more-requires : goal.no_more-requires
+no_more-requires c = c.loop.invariant.fitting.to
 
-pub returns-then-start-stop-2 : goal.returns-then-start-stop-2
-returns-then-start-stop-2 c =
-    quarters_many c.loop-k.invariant (search rules) c.field_start-start-2.ensures.is
-    (search rules) c.if-start-stop-2.true c.bad-then-start-stop-2.ensures
+pub returns-in_err-no_more : goal.returns-in_err-no_more
+returns-in_err-no_more c =
+    search (rules, plain_many c.loop.invariant c.loop-test.false c.in_err-no_more.ensures c.requires)
 
 pub returns : goal.returns
-returns c =
-    quarters_end c.loop-k.invariant (search rules) c.field_start-start-2.ensures.is (search rules)
-    (search rules)
+returns c = plain_end c.loop.invariant c.loop-test.false c.in_ok-no_more.ensures c.requires

@@ -1,16 +1,14 @@
-use native.Mathlib.Omega.{arith}
-use mathlib.Core.Path.{refl, sym, ◌∙◌}
-use Rattle.placing.proofs.PassLaws.{named_turn, named_done}
+use Rattle.std.proofs.Common.{rules, tests}
+use mathlib.Core.Bool.{◌&&◌}
+use mathlib.Core.Path.{◌∙◌}
+use lib.Dec.{eqb}
+use Rattle.tables.specs.Heads.{is_entry}
+use Rattle.tables.specs.Iter.{parts_left}
+use Rattle.tables.proofs.PairLaws.{any_part}
+use Rattle.placing.proofs.PassLaws.{named_pass}
 use Rattle.placing.proofs.names.enters.Goals as goal
 
-pub loop-i-init : goal.loop-i-init
-loop-i-init c = (omega arith, refl, refl)
-
-pub returns-then-is_entry_of : goal.returns-then-is_entry_of
-returns-then-is_entry_of c = let l = c.loop-i in let a = c.args in named_turn a.parts.now l.i (omega arith) a.name l.invariant.2 c.is_entry_of.ensures c.if-is_entry_of.true
-
-pub loop-i-preserved : goal.loop-i-preserved
-loop-i-preserved c = let l = c.loop-i in let a = c.args in (omega arith, omega arith, named_turn a.parts.now l.i (omega arith) a.name l.invariant.2 c.is_entry_of.ensures c.if-is_entry_of.false)
-
 pub returns : goal.returns
-returns c = sym (named_done c.args.parts.now c.loop-i.i (omega arith) c.args.name) ∙ c.loop-i.invariant.2
+returns c =
+    any_part (λ p. is_entry p.head && eqb c.args.name p.body) c.args.parts c.any.new.self c.any.ensures.ran (λ x b q k. search (rules, tests))
+    ∙ named_pass (parts_left c.args.parts) c.args.name

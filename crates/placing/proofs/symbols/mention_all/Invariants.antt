@@ -1,16 +1,15 @@
-use mathlib.Core.Path.{◌≡◌}
-use lib.ListN.{length}
-use Prim.Native.Nat.{◌-◌, ◌≤◌}
 use Rattle.rules.specs.Placing.{externals_in}
 use Rattle.state.specs.Layout.{decode}
 use Rattle.state.specs.Good.{Good}
 use Rattle.order.specs.Order.{Ordered}
-use Rattle.tables.specs.Heads.{parts_from}
+use Rattle.tables.specs.Iter.{parts_in}
 use Rattle.placing.specs.Effects.{Mentioning}
 use Rattle.placing.proofs.symbols.mention_all.Given as goal
 
-abbrev pub invariant-loop-i : goal.invariant-loop-i
-invariant-loop-i l = (l.i ≤ l.n) × (l.n ≡ length l.parts) × (Good l.state × Ordered l.state l.order) × (length l.state ≡ length l.initial.state) × Mentioning (externals_in (parts_from l.parts 0)) (decode l.initial.state) l.count l.at (externals_in (parts_from l.parts l.i)) (decode l.state)
-
-abbrev pub decreases-loop-i : goal.decreases-loop-i
-decreases-loop-i l = l.n - l.i
+abbrev pub invariant-loop-part : goal.invariant-loop-part
+invariant-loop-part l =
+    (goal.iterator-loop-part).can_next l.part-iterator
+    × (goal.iterator-loop-part).is_finite l.part-iterator
+    × Good l.state
+    × Ordered l.state l.order
+    × Mentioning (externals_in (parts_in l.fn.parts)) (decode l.initial.state) l.count l.at (externals_in (parts_in l.part-iterator)) (decode l.state)

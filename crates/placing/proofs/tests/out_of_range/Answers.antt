@@ -1,16 +1,12 @@
-use native.Mathlib.Omega.{arith}
-use mathlib.Core.Path.{refl, sym, ◌∙◌}
-use Rattle.placing.proofs.PassLaws.{over_turn, over_done}
+use Rattle.std.proofs.Common.{rules, tests}
+use mathlib.Core.Path.{◌∙◌}
+use Rattle.tables.specs.Iter.{parts_left}
+use Rattle.tables.proofs.PairLaws.{any_part}
+use Rattle.placing.specs.Passes.{is_over}
+use Rattle.placing.proofs.PassLaws.{over_pass}
 use Rattle.placing.proofs.tests.out_of_range.Goals as goal
 
-pub loop-i-init : goal.loop-i-init
-loop-i-init c = (omega arith, refl, refl)
-
-pub returns-then-is_over : goal.returns-then-is_over
-returns-then-is_over c = let l = c.loop-i in let a = c.args in over_turn a.parts.now l.i (omega arith) a.base l.invariant.2 c.is_over.ensures c.if-is_over.true
-
-pub loop-i-preserved : goal.loop-i-preserved
-loop-i-preserved c = let l = c.loop-i in let a = c.args in (omega arith, omega arith, over_turn a.parts.now l.i (omega arith) a.base l.invariant.2 c.is_over.ensures c.if-is_over.false)
-
 pub returns : goal.returns
-returns c = sym (over_done c.args.parts.now c.loop-i.i (omega arith) c.args.base) ∙ c.loop-i.invariant.2
+returns c =
+    any_part (λ p. is_over c.args.base p.head) c.args.parts c.any.new.self c.any.ensures.ran (λ x b q k. search (rules, tests))
+    ∙ over_pass (parts_left c.args.parts) c.args.base

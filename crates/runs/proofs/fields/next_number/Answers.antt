@@ -1,10 +1,7 @@
--- `runs::fields::next_number` meets its contract: a number behind one space, or behind more.
--- Assumes nothing.
-use Rattle.runs.proofs.SpelledLaws.{no_next}
+-- `runs::fields::next_number` meets its contract: a number behind spaces.
+use Rattle.std.proofs.lemmas.Option.{IfSome_then}
+use Rattle.runs.proofs.SpelledLaws.{number_spaced}
 use Rattle.runs.proofs.fields.next_number.Goals as goal
 
-pub returns-then-file-i-le-MOST_DIGITS : goal.returns-then-file-i-le-MOST_DIGITS
-returns-then-file-i-le-MOST_DIGITS c = no_next _ _ c.requires
-
-pub returns-then-near-i : goal.returns-then-near-i
-returns-then-near-i c = c.near_number-near.ensures.0
+pub returns : goal.returns
+returns c = IfSome_then _ c.number_end.ensures (λ _ n. number_spaced c.in_ok-gap_end.ensures n)

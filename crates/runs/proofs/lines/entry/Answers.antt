@@ -1,29 +1,13 @@
--- `runs::lines::entry` meets its contract: each field follows the one before it; 0 promises nothing.
--- Assumes nothing.
-use mathlib.Core.Path.{refl}
+-- `runs::lines::entry` meets its contract: each field follows the one before it.
+use Rattle.std.proofs.lemmas.Option.{IfSome_then}
 use Rattle.runs.proofs.LineReadLaws.{absolute_read, relocated_read}
 use Rattle.runs.proofs.lines.entry.Goals as goal
 
-pub returns-then-named-start : goal.returns-then-named-start
-returns-then-named-start c = λ some. absurd (some refl)
-
-pub returns-then-end-named : goal.returns-then-end-named
-returns-then-end-named c = λ some. absurd (some refl)
-
-pub returns-then-absolute-end : goal.returns-then-absolute-end
-returns-then-absolute-end c =
-    λ some.
-    absolute_read (c.line_end.ensures some) c.spaces_end-start.ensures c.name_end-named.ensures c.if-named-start.false (c.next_number-end.ensures.is c.if-end-named.false)
-    (c.byte_end-absolute.ensures.is c.if-absolute-end.true)
-
-pub returns-then-relocated-end : goal.returns-then-relocated-end
-returns-then-relocated-end c = λ some. absurd (some refl)
-
-pub returns-then-stop-relocated : goal.returns-then-stop-relocated
-returns-then-stop-relocated c = λ some. absurd (some refl)
+pub returns-in-Some : goal.returns-in-Some
+returns-in-Some c =
+    IfSome_then _ c.line_end.ensures (λ _ d. absolute_read d c.spaces_end.ensures c.in_ok-named.ensures c.in_ok-end.ensures c.in-Some.ensures)
 
 pub returns : goal.returns
 returns c =
-    λ some.
-    relocated_read (c.line_end-2.ensures some) c.spaces_end-start.ensures c.name_end-named.ensures c.if-named-start.false (c.next_number-end.ensures.is c.if-end-named.false)
-    (c.byte_end-relocated.ensures.is c.if-relocated-end.false) (c.next_number-stop.ensures.is c.if-stop-relocated.false)
+    IfSome_then _ c.line_end-2.ensures
+    (λ _ d. relocated_read d c.spaces_end.ensures c.in_ok-named.ensures c.in_ok-end.ensures c.in_ok-relocated.ensures c.in_ok-stop.ensures)

@@ -1,11 +1,7 @@
--- `runs::lines::external` meets its contract: a name; 0 promises nothing.
--- Assumes nothing.
-use mathlib.Core.Path.{refl}
+-- `runs::lines::external` meets its contract: a name.
+use Rattle.std.proofs.lemmas.Option.{IfSome_then}
 use Rattle.runs.proofs.LineReadLaws.{external_read}
 use Rattle.runs.proofs.lines.external.Goals as goal
 
-pub returns-then-end-start : goal.returns-then-end-start
-returns-then-end-start c = λ some. absurd (some refl)
-
 pub returns : goal.returns
-returns c = λ some. external_read (c.line_end.ensures some) c.spaces_end-start.ensures c.name_end-end.ensures c.if-end-start.false
+returns c = IfSome_then _ c.line_end.ensures (λ _ d. external_read d c.spaces_end.ensures c.in_ok-end.ensures)

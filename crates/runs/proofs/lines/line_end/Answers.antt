@@ -1,10 +1,7 @@
--- `runs::lines::line_end` meets its contract: the line stops behind the spaces; 0 promises nothing.
--- Assumes nothing.
-use native.Mathlib.Omega.{arith}
+-- `runs::lines::line_end` meets its contract: the line stops behind the spaces.
+use Rattle.std.proofs.lemmas.Option.{IfSome_then}
+use Rattle.runs.proofs.LineReadLaws.{line_ended}
 use Rattle.runs.proofs.lines.line_end.Goals as goal
 
-pub line_stop-requires : goal.line_stop-requires
-line_stop-requires c = (omega (arith, c.requires.0, c.spaces_end.ensures.from), c.spaces_end.ensures.to)
-
 pub returns : goal.returns
-returns c = λ some. record { stop = _; gap = c.spaces_end.ensures; stops = c.line_stop.ensures some }
+returns c = IfSome_then _ c.line_stop.ensures (λ _ stops. line_ended c.spaces_end.ensures stops)

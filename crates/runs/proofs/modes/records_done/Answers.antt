@@ -6,6 +6,4 @@ pub overflow_sub-result : goal.overflow_sub-result
 overflow_sub-result c = omega (arith, c.requires, room_most c.args.m)
 
 pub returns : goal.returns
-returns c =
-    done c.args.m c.args.k c.requires.0 c.requires.1
-    c.then_expected.ensures c.more_entries.ensures c.more_externals.ensures
+returns c = rw (c.then_object.ensures, c.then_expected.ensures) (done c.args.m c.args.k c.requires.0 c.requires.1)

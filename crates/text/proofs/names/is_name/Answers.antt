@@ -1,34 +1,24 @@
--- `text::names::is_name` meets its contract: at each character what is left decides.
+-- `text::names::is_name` meets its contract: by the first character and the others.
 -- Assumes nothing.
-use mathlib.Core.Path.{sym, ◌∙◌}
-use borrow.Author.Rules.{rules}
-use Rattle.text.proofs.NameLaws.{name_short, name_long, name_first, characters_start, characters_bad, characters_step, characters_end}
+use Rattle.std.proofs.Common.{sym, ◌∙◌}
+use Rattle.text.proofs.NameLaws.{name_none, name_long, name_first, name_rest}
 use Rattle.text.proofs.names.is_name.Goals as goal
+use Rattle.text.proofs.names.is_name.Goals.{then-rest-ge-LONGEST_NAME-via-then-rest-ge-LONGEST_NAME, then-rest-ge-LONGEST_NAME-via-else-rest-ge-LONGEST_NAME+then-not-is_letter}
 
-pub returns-then-n-eq0 : goal.returns-then-n-eq0
-returns-then-n-eq0 c = sym (name_short _ c.if-n-eq0.true)
+pub returns-in_default : goal.returns-in_default
+returns-in_default c = sym (name_none _ c.in_default.ensures.cases)
 
-pub returns-then-n-gt-LONGEST_NAME : goal.returns-then-n-gt-LONGEST_NAME
-returns-then-n-gt-LONGEST_NAME c = sym (name_long _ c.if-n-gt-LONGEST_NAME.true)
-
-pub returns-then-not-is_letter : goal.returns-then-not-is_letter
-returns-then-not-is_letter c = sym (name_first _ (sym c.is_letter.ensures ∙ c.if-not-is_letter.true))
-
-pub loop-i-init : goal.loop-i-init
-loop-i-init c =
-    characters_start _ c.if-n-eq0.false c.if-n-gt-LONGEST_NAME.false
-    (sym c.is_letter.ensures ∙ c.if-not-is_letter.false)
-
-pub returns-then-not-is_name_character : goal.returns-then-not-is_name_character
-returns-then-not-is_name_character c =
-    sym
-    (characters_bad c.loop-i.invariant (search rules)
-    (sym c.is_name_character.ensures ∙ c.if-not-is_name_character.true))
-
-pub loop-i-preserved : goal.loop-i-preserved
-loop-i-preserved c =
-    characters_step c.loop-i.invariant (search rules)
-    (sym c.is_name_character.ensures ∙ c.if-not-is_name_character.false)
+pub returns-then-rest-ge-LONGEST_NAME : goal.returns-then-rest-ge-LONGEST_NAME
+returns-then-rest-ge-LONGEST_NAME c =
+    rw (c.in-Some.ensures.cases.0)
+    (elim c.then-rest-ge-LONGEST_NAME.branch [
+      | then-rest-ge-LONGEST_NAME-via-then-rest-ge-LONGEST_NAME w ↦ sym (name_long _ _ w.if-rest-ge-LONGEST_NAME.true)
+      | then-rest-ge-LONGEST_NAME-via-else-rest-ge-LONGEST_NAME+then-not-is_letter w ↦
+          sym (name_first _ _ (sym w.is_letter.ensures ∙ w.if-not-is_letter.true))
+    ])
 
 pub returns : goal.returns
-returns c = sym (characters_end c.loop-i.invariant (search rules))
+returns c =
+    rw (c.in-Some.ensures.cases.0)
+    (c.are_name_characters.ensures
+    ∙ sym (name_rest _ _ c.if-rest-ge-LONGEST_NAME.false (sym c.is_letter.ensures ∙ c.if-not-is_letter.false)))

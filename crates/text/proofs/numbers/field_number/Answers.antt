@@ -1,14 +1,17 @@
 -- `text::numbers::field_number` meets its contract: digits with a field's end behind them are the field.
 -- Assumes nothing.
+use Rattle.std.proofs.Common.{◌≡◌, arith, get_or, rules}
+use Rattle.text.proofs.ScanLaws.{in_line}
 use Rattle.text.proofs.NumberLaws.{line_ends, space_ends}
 use Rattle.text.proofs.numbers.field_number.Goals as goal
-
-pub returns-then-end-stop : goal.returns-then-end-stop
-returns-then-end-stop c =
-    line_ends c.requires c.digits-run.ensures c.if-end-at.false c.if-end-stop.true
-    c.as_number.ensures
+use Rattle.text.proofs.numbers.field_number.Goals.{then-end-line, else-end-line}
 
 pub returns : goal.returns
 returns c =
-    space_ends c.requires c.digits-run.ensures c.if-end-at.false
-    c.if-end-stop.false c.if-file-end-ne-SPACE.false c.as_number-2.ensures
+    elim c.if-end-line.branch [
+      | then-end-line w ↦
+          let space : get_or c.args.line.now c.digits-run.result.end 0 ≡ 32 = search rules in
+          space_ends (in_line _ _ c.requires) c.digits-run.ensures c.if-end-at.false (λ e. omega arith) space c.as_number.ensures
+      | else-end-line w ↦
+          line_ends (in_line _ _ c.requires) c.digits-run.ensures c.if-end-at.false (omega (arith, c.digits-run.ensures.to)) c.as_number.ensures
+    ]

@@ -1,6 +1,0 @@
--- `line::fitting::said` meets its contract: by whether the fields fit.
--- Assumes nothing.
-use Rattle.line.proofs.fitting.said.Goals as goal
-
-pub returns : goal.returns
-returns c = rw c.if-fits.false

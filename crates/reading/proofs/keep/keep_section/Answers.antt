@@ -1,8 +1,0 @@
-use Rattle.rules.proofs.BoolLaws.{never}
-use Rattle.reading.proofs.keep.keep_section.Goals as goal
-
-pub returns-then-not-keep : goal.returns-then-not-keep
-returns-then-not-keep c = λ e. never e c.if-not-keep.true
-
-pub close_section-requires : goal.close_section-requires
-close_section-requires c = c.requires c.if-not-keep.false
