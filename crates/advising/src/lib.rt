@@ -2,28 +2,31 @@
 // nothing is kept of what they say.
 #![tactic(auto)]
 
-ghost use Rattle.std.specs.Prelude.{◌≤◌, ◌≡◌, length, take};
+ghost use Rattle.std.specs.Prelude.{◌≤◌, ◌≡◌, length, take, MatchOption};
 ghost use Rattle.rules.specs.Limits.{longest_file};
-ghost use Rattle.advising.specs.Whole.{LinesEnd, early_fault};
+ghost use Rattle.advising.specs.Whole.{LinesEnd, NoneFrom, IsLast, early_fault};
 
 use reading::{Place, read_on};
 use rules::reading::Reading;
 use steps::modes::at_start;
 use text::scan::LF;
 
+// The last LF.
+fn last_lf(bytes: &[u8]) -> Option<usize>
+    ensures { MatchOption result (NoneFrom 0 bytes.now) (λ i. IsLast bytes.now i) }
+{
+    bytes.iter().rposition(|b| *b == LF)
+}
+
 // Where the whole lines of the first n bytes end.
 pub fn lines_end(file: &[u8], n: usize) -> usize
     requires { n ≤ length file.now }
     ensures { LinesEnd file.now n result }
 {
-    let mut end = n;
-    while 0 < end {
-        if file[end - 1] == LF {
-            return end;
-        }
-        end -= 1;
+    match last_lf(&file[..n]) {
+        Some(last) => last + 1,
+        None => 0,
     }
-    0
 }
 
 // The first fault of the lines up to `end`, where the whole lines of the first `old` bytes have none.

@@ -27,22 +27,18 @@ byte_zero c (suc m) zero h l = absurd (not-suc-le-zero l)
 byte_zero c zero (suc r) h l = byte_zero (c / 256) zero r (omega arith) (omega arith)
 byte_zero c (suc m) (suc r) h l = byte_zero (c / 256) m r (omega (arith, pow-succ' 256 m)) (le_of_suc-le-suc l)
 
--- ---- the powers that the code has in a table
+-- ---- a power, as the code shifts to it
 
-from_zero : (k : ℕ) → 0 ≤ k
-from_zero k = omega arith
-
-above : (a k : ℕ) → a ≤ k → k ≢ a → a + 1 ≤ k
-above a k l h = omega arith
-
-seven : (k : ℕ) → k < 8 → 7 ≤ k → 7 ≡ k
-seven k h l = omega arith
-
--- the last of them: none before it was meant
-pub last_power : (k : ℕ) → k < 8 → k ≢ 0 → k ≢ 1 → k ≢ 2 → k ≢ 3 → k ≢ 4 → k ≢ 5 → k ≢ 6 → 256 ^ 7 ≡ 256 ^ k
-last_power k h n₀ n₁ n₂ n₃ n₄ n₅ n₆ =
-    let three : 3 ≤ k = above 2 k (above 1 k (above 0 k (from_zero k) n₀) n₁) n₂ in
-    ap (◌^◌ 256) (seven k h (above 6 k (above 5 k (above 4 k (above 3 k three n₃) n₄) n₅) n₆))
+pub power_is : (k : ℕ) → k < 8 → 1 * 2 ^ (8 * k) % 18446744073709551616 ≡ 256 ^ k
+power_is zero h = refl
+power_is (suc zero) h = refl
+power_is (suc (suc zero)) h = refl
+power_is (suc (suc (suc zero))) h = refl
+power_is (suc (suc (suc (suc zero)))) h = refl
+power_is (suc (suc (suc (suc (suc zero))))) h = refl
+power_is (suc (suc (suc (suc (suc (suc zero)))))) h = refl
+power_is (suc (suc (suc (suc (suc (suc (suc zero))))))) h = refl
+power_is (suc (suc (suc (suc (suc (suc (suc (suc k)))))))) h = absurd (omega arith)
 
 -- ---- bytes that are packed
 

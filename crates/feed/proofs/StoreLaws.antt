@@ -1,5 +1,5 @@
 -- The loops over the bytes: one put into the cells, and eight taken out of a cell.
-use Prim.Native.Nat.{ℕ, zero, suc, ◌+◌, ◌*◌, ◌/◌, ◌%◌, ◌^◌, ◌≤◌, ◌<◌}
+use Prim.Native.Nat.{ℕ, zero, suc, ◌+◌, ◌-◌, ◌*◌, ◌/◌, ◌%◌, ◌^◌, ◌≤◌, ◌<◌}
 use native.Mathlib.Nat.{pow-le-pow_right, mul-le-mul_right}
 use native.Mathlib.Omega.{arith}
 use mathlib.Core.Bool.{Bool, true, false, cond}
@@ -18,6 +18,12 @@ use Rattle.state.specs.Layout.{zeros}
 use Rattle.state.proofs.BoolLaws.{same_test}
 use Rattle.state.proofs.ListLaws.{length_zeros, length_map_range, get_or_map_range, map_range}
 use Rattle.feed.specs.Layout.{feed_size, cell_of, cells_with, byte_of, byte_in, bytes_in}
+use Rattle.std.specs.Int.{to_le_bytes}
+use Rattle.std.proofs.Common.{w64}
+use Rattle.std.proofs.lemmas.List.Edits.{paste_more, paste_none}
+use Rattle.std.proofs.lemmas.Slice.{put_mid-paste}
+use borrow.Rule.Slice.PartMut.{put_mid}
+use lib.Seq.{paste}
 use Rattle.feed.specs.Held.{file_room, unpacked, spread_at}
 use Rattle.feed.proofs.PackLaws.{pack_below, pack_other, pack_more}
 use Rattle.feed.proofs.FeedLaws.{cells_long, cell_is, mark_is, get_or_zeros, byte_past, at_small, small_take, small_append, piece_small, bytes_long, bytes_small}
@@ -115,6 +121,27 @@ module _ (cells : List ℕ) where
 
   pub unpacked_length : (file : List ℕ) (n : ℕ) → file ≡ unpacked cells n → length file ≡ file_room
   unpacked_length file n e = ap length e ∙ unpacked_long n
+
+-- ---- the eight bytes of a cell, written at once
+
+module _ (c a : ℕ) (file : List ℕ) (h : a + 8 ≤ length file) where
+  abbrev bytes : List ℕ
+  bytes = to_le_bytes w64 c
+
+  one_byte : (i : ℕ) → i < 8 → byte_of c i ≡ get_or bytes i 0 → set (paste file a bytes i) (a + i) (byte_of c i) ≡ paste file a bytes (i + 1)
+  one_byte i l e = ap (set (paste file a bytes i) (a + i)) e ∙ paste_more file a bytes i 0 (omega arith) l
+
+  first_byte : set file a (byte_of c 0) ≡ paste file a bytes 1
+  unfolding byte_of
+  first_byte = ap₂ (λ (l : List ℕ) (k : ℕ). set l k (byte_of c 0)) (paste_none file a bytes) (omega arith) ∙ one_byte 0 (omega arith) refl
+
+  spread_paste : spread_at c a file ≡ paste file a bytes 8
+  unfolding byte_of
+  spread_paste =
+      rw (first_byte, one_byte 1 (omega arith) (omega arith), one_byte 2 (omega arith) (omega arith), one_byte 3 (omega arith) (omega arith), one_byte 4 (omega arith) (omega arith), one_byte 5 (omega arith) (omega arith), one_byte 6 (omega arith) (omega arith), one_byte 7 (omega arith) (omega arith)) refl
+
+  pub spread_written : (ys : List ℕ) → ys ≡ bytes → put_mid a (a + 8 - a) file ys ≡ spread_at c a file
+  spread_written ys e = put_mid-paste a (a + 8 - a) file ys bytes 8 e (omega arith) refl ∙ sym spread_paste
 
 -- ---- a byte that is put into the cells
 

@@ -14,35 +14,19 @@ pub fn put_bytes(feed: &mut [u64], n: usize, piece: &[u8])
     requires feed_value { feed.old ≡ cells_with (get_or feed.old 0 0) (bytes_in feed.old n) }
     ensures { feed.new ≡ cells_with (get_or feed.old 0 0) (bytes_in feed.old n ++ piece.now) }
 {
-    let mut i = 0;
-    while i < piece.len() {
+    for (i, byte) in piece.iter().enumerate() {
         let k = n + i;
         let cell = BYTES + k / 8;
-        feed[cell] = feed[cell] + piece[i] as u64 * power(k % 8);
-        i += 1;
+        feed[cell] += *byte as u64 * power(k % 8);
     }
 }
 
-// The eight bytes of a cell. The compiler makes one store of them.
+// The eight bytes of a cell.
 fn spread(cell: u64, file: &mut [u8], at: usize)
     requires { at + 8 ≤ length file.old }
     ensures { file.new ≡ spread_at cell at file.old }
 {
-    file[at] = (cell % 256) as u8;
-    let b = cell / 256;
-    file[at + 1] = (b % 256) as u8;
-    let c = b / 256;
-    file[at + 2] = (c % 256) as u8;
-    let d = c / 256;
-    file[at + 3] = (d % 256) as u8;
-    let e = d / 256;
-    file[at + 4] = (e % 256) as u8;
-    let f = e / 256;
-    file[at + 5] = (f % 256) as u8;
-    let g = f / 256;
-    file[at + 6] = (g % 256) as u8;
-    let h = g / 256;
-    file[at + 7] = (h % 256) as u8;
+    file[at..at + 8].copy_from_slice(&cell.to_le_bytes());
 }
 
 // The bytes of the first n cells, into zeros.
@@ -52,9 +36,7 @@ pub fn unpack(feed: &[u64], n: usize, file: &mut [u8])
     requires file_value { file.old ≡ zeros file_room }
     ensures { file.new ≡ unpacked feed.now (8 * n) }
 {
-    let mut i = 0;
-    while i < n {
+    for i in 0..n {
         spread(feed[BYTES + i], file, 8 * i);
-        i += 1;
     }
 }

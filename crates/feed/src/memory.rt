@@ -14,16 +14,7 @@ pub fn power(k: usize) -> u64
     requires { k < 8 }
     ensures { result ≡ 256 ^ k }
 {
-    match k {
-        0 => 1,
-        1 => 0x100,
-        2 => 0x10000,
-        3 => 0x1000000,
-        4 => 0x100000000,
-        5 => 0x10000000000,
-        6 => 0x1000000000000,
-        _ => 0x100000000000000,
-    }
+    1 << (8 * k)
 }
 
 // How many bytes stand in the cells, by the first of them.

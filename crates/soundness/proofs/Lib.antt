@@ -3,4 +3,4 @@ pub mod NameLaws
 pub mod CheckLaws
 pub mod SoundLaws
 pub mod RefusalLaws
-pub mod ZeroLaws
+pub mod EachLaws

@@ -1,5 +1,5 @@
 -- Soundness as tests on cells, one for each function of src/.
-use Rattle.std.specs.Prelude.{ℕ, ◌+◌, ◌%◌, ◌≤◌, Bool, true, cond, not, ◌&&◌, ◌||◌, List, ◌≡◌, length, get_or, eqb, leb}
+use Rattle.std.specs.Prelude.{ℕ, ◌+◌, ◌%◌, Bool, true, cond, not, ◌&&◌, ◌||◌, List, ◌≡◌, length, get_or, eqb, leb}
 use Rattle.rules.specs.Text.{all, between, is_name_character, is_packed}
 use Rattle.rules.specs.Calls.{LentOf, wrong_length, damaged, holding}
 use Rattle.state.specs.Layout.{names_at, values_at, texts_at, tags_at, range, decode, lent}
@@ -21,10 +21,6 @@ zero_at cells k = eqb (get_or cells k 0) 0
 
 unfoldable pub zero_between : List ℕ → ℕ → ℕ → Bool
 zero_between cells a b = all (zero_at cells) (range a b)
-
--- those from a to b are, whichever follow
-abbrev pub ZeroOn : List ℕ → ℕ → ℕ → Type 0
-ZeroOn cells a b = (to : ℕ) → b ≤ to → zero_between cells b to ≡ zero_between cells a to
 
 -- undefined, or a value of sixteen bits
 unfoldable pub value_sound : ℕ → Bool

@@ -1,83 +1,56 @@
 // The tests of soundness, each over a region of state memory.
-ghost use Rattle.std.specs.Prelude.{◌+◌, ◌<◌, ◌≤◌, true, ◌≡◌, length};
-ghost use Rattle.rules.specs.Limits.{program_words, most_symbols};
+ghost use Rattle.std.specs.Prelude.{◌+◌, ◌<◌, ◌≤◌, ◌≡◌, ◌==◌, ◌&&◌, not, length, drop};
+ghost use Rattle.std.specs.List.{list_all, zip};
+ghost use Rattle.rules.specs.Text.{is_packed};
+ghost use Rattle.rules.specs.Limits.{most_symbols};
 ghost use Rattle.state.specs.Layout.{size};
-ghost use Rattle.soundness.specs.Checks.{header_sound, zero_between, ZeroOn, value_sound, symbols_sound, unlike, HasMet, Alone, names_differ, word_sound_at, words_sound};
+ghost use Rattle.soundness.specs.Checks.{header_sound, zero_between, value_sound, symbols_sound, HasMet, Alone, names_differ, word_sound, words_sound};
 
 use crate::name::is_packed;
-use rules::limits::{MOST_SYMBOLS, PROGRAM_WORDS};
+use rules::limits::{LARGEST_NUMBER, MOST_SYMBOLS, PROGRAM_WORDS};
 use state::layout::{
-    COUNT, DEFINED, MARK, Mark, NAMES, NEXT, PLAIN, SPARE, TAGS, TEXTS, UNPLACED, VALUES,
+    COUNT, DEFINED, MARK, Mark, NAMES, NEXT, PLAIN, SIZE, SPARE, TAGS, TEXTS, UNPLACED, VALUES,
 };
 
+#[tactic(auto, unfolding(crate::specs::Checks::header_sound))]
 pub fn header_sound(state: &[u64]) -> bool
     requires { length state.now ≡ size }
     ensures { result ≡ header_sound state.now }
 {
-    if (MOST_SYMBOLS as u64) < state[COUNT] {
-        return false;
-    }
-    if (PROGRAM_WORDS as u64) < state[NEXT] {
-        return false;
-    }
-    if (Mark::Frozen as u64) < state[MARK] {
-        return false;
-    }
-    state[SPARE] == 0
+    state[COUNT] <= MOST_SYMBOLS as u64
+        && state[NEXT] <= PROGRAM_WORDS as u64
+        && state[MARK] <= Mark::Frozen as u64
+        && state[SPARE] == 0
 }
 
-// Are the eight cells from k on zero?
-fn eight_zero(cells: &[u64], k: usize) -> bool
-    requires { k + 8 ≤ length cells.now }
-    ensures { result ≡ true → ZeroOn cells.now k (k + 8) }
+// Are the cells from one on zero?
+fn zero_from(cells: &[u64], from: usize) -> bool
+    ensures { result ≡ list_all (λ cell. cell == 0) (drop from cells.now) }
 {
-    let low = cells[k] | cells[k + 1] | cells[k + 2] | cells[k + 3];
-    let high = cells[k + 4] | cells[k + 5] | cells[k + 6] | cells[k + 7];
-    (low | high) == 0
-}
-
-// From where on cells have to be looked at one by one: those before it are zero.
-fn zeros_end(cells: &[u64], from: usize, to: usize) -> usize
-    requires { to ≤ length cells.now }
-    ensures { zero_between cells.now result to ≡ zero_between cells.now from to }
-{
-    let mut k = from;
-    while k < to {
-        if to - k < 8 {
-            return k;
-        }
-        if !eight_zero(cells, k) {
-            return k;
-        }
-        k += 8;
-    }
-    k
+    cells.iter().skip(from).all(|cell| *cell == 0)
 }
 
 pub fn zero_between(state: &[u64], from: usize, to: usize) -> bool
     requires { to ≤ length state.now }
     ensures { result ≡ zero_between state.now from to }
 {
-    let mut k = zeros_end(state, from, to);
-    while k < to {
-        if state[k] != 0 {
-            return false;
-        }
-        k += 1;
-    }
-    true
+    zero_from(&state[..to], from)
 }
 
+#[tactic(auto, unfolding(crate::specs::Checks::value_sound))]
 fn value_sound(v: u64) -> bool
     ensures { result ≡ value_sound v }
 {
-    if v == 0 {
-        return true;
-    }
-    if v < DEFINED {
-        return false;
-    }
-    v <= 131071
+    v == 0 || DEFINED <= v && v <= DEFINED + LARGEST_NUMBER as u64
+}
+
+fn each_symbol_sound(names: &[u64], values: &[u64]) -> bool
+    ensures { result ≡ list_all (λ s. is_packed s.0 && value_sound s.1) (zip names.now values.now) }
+{
+    names
+        .iter()
+        .zip(values)
+        .all(|(name, value)| is_packed(*name) && value_sound(*value))
 }
 
 pub fn symbols_sound(state: &[u64], n: usize) -> bool
@@ -85,43 +58,24 @@ pub fn symbols_sound(state: &[u64], n: usize) -> bool
     requires n_le_most_symbols { n ≤ most_symbols }
     ensures { result ≡ symbols_sound state.now n }
 {
-    let mut i = 0;
-    while i < n {
-        if !is_packed(state[NAMES + i]) {
-            return false;
-        }
-        if !value_sound(state[VALUES + i]) {
-            return false;
-        }
-        i += 1;
-    }
-    true
+    each_symbol_sound(&state[NAMES..NAMES + n], &state[VALUES..VALUES + n])
 }
 
 // No name from position i on is x.
-fn unlike_from(state: &[u64], x: u64, i: usize, n: usize) -> bool
-    requires state_len { length state.now ≡ size }
-    requires n_le_most_symbols { n ≤ most_symbols }
-    ensures { result ≡ unlike state.now x i n }
+fn unlike_from(names: &[u64], x: u64, i: usize) -> bool
+    ensures { result ≡ list_all (λ name. not (name == x)) (drop i names.now) }
 {
-    let mut j = i;
-    while j < n {
-        if state[NAMES + j] == x {
-            return false;
-        }
-        j += 1;
-    }
-    true
+    names.iter().skip(i).all(|name| *name != x)
 }
 
 // The filter has a flag for each remainder of a name.
 const REMAINDERS: u64 = 3989;
 
-const FILTER: usize = 4096;
+type Filter = [u8; 4096];
 
 // Is the name of symbol i that of no later one? The filter has met the remainders of the names behind it, and meets that of this
 // one. Only where it had met it already the names behind are looked through.
-fn stands_alone(state: &[u64], i: usize, n: usize, met: &mut [u8]) -> bool
+fn stands_alone(state: &[u64], i: usize, n: usize, met: &mut Filter) -> bool
     requires state_len { length state.now ≡ size }
     requires i_lt_n { (i < n) × (n ≤ most_symbols) }
     requires has_met { HasMet state.now n (i + 1) met.old }
@@ -133,7 +87,7 @@ fn stands_alone(state: &[u64], i: usize, n: usize, met: &mut [u8]) -> bool
         met[h] = 1;
         return true;
     }
-    unlike_from(state, name, i + 1, n)
+    unlike_from(&state[NAMES..NAMES + n], name, i + 1)
 }
 
 // From the last name to the first.
@@ -142,10 +96,8 @@ pub fn names_differ(state: &[u64], n: usize) -> bool
     requires n_le_most_symbols { n ≤ most_symbols }
     ensures { result ≡ names_differ state.now n }
 {
-    let mut met = [0u8; FILTER];
-    let mut i = n;
-    while 0 < i {
-        i -= 1;
+    let mut met = [0; 4096];
+    for i in (0..n).rev() {
         if !stands_alone(state, i, n, &mut met) {
             return false;
         }
@@ -153,17 +105,26 @@ pub fn names_differ(state: &[u64], n: usize) -> bool
     true
 }
 
-// The word at an address. Its text is read only where no word is placed.
-fn word_sound(state: &[u64], n: usize, address: usize) -> bool
-    requires state_len { length state.now ≡ size }
-    requires n_le_most_symbols { (n ≤ most_symbols) × (address < program_words) }
-    ensures { result ≡ word_sound_at state.now n address }
+// Its text is read only where no word is placed.
+#[tactic(auto, unfolding(crate::specs::Checks::word_sound))]
+fn word_sound(text: u64, tag: u64, n: usize) -> bool
+    requires { n ≤ most_symbols }
+    ensures { result ≡ word_sound n text tag }
 {
-    let tag = state[TAGS + address];
     if tag == UNPLACED {
-        return state[TEXTS + address] == 0;
+        return text == 0;
     }
     tag <= n as u64 + PLAIN
+}
+
+fn each_word_sound(texts: &[u64], tags: &[u64], n: usize) -> bool
+    requires { n ≤ most_symbols }
+    ensures { result ≡ list_all (λ w. word_sound n w.0 w.1) (zip texts.now tags.now) }
+{
+    texts
+        .iter()
+        .zip(tags)
+        .all(|(text, tag)| word_sound(*text, *tag, n))
 }
 
 pub fn words_sound(state: &[u64], n: usize) -> bool
@@ -171,12 +132,5 @@ pub fn words_sound(state: &[u64], n: usize) -> bool
     requires n_le_most_symbols { n ≤ most_symbols }
     ensures { result ≡ words_sound state.now n }
 {
-    let mut a = 0;
-    while a < PROGRAM_WORDS {
-        if !word_sound(state, n, a) {
-            return false;
-        }
-        a += 1;
-    }
-    true
+    each_word_sound(&state[TEXTS..TAGS], &state[TAGS..SIZE], n)
 }

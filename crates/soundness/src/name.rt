@@ -8,20 +8,14 @@ use text::names::is_name_character;
 fn is_letter(b: u64) -> bool
     ensures { result ≡ is_letter b }
 {
-    if b < 65 {
-        return false;
-    }
-    b <= 90
+    65 <= b && b <= 90
 }
 
 // The rest of a name, whose next byte is b: nothing, or it goes on with a character of names.
 fn goes_on(rest: u64, b: u8) -> bool
     ensures { result ≡ goes_on rest b }
 {
-    if rest == 0 {
-        return true;
-    }
-    is_name_character(b)
+    rest == 0 || is_name_character(b)
 }
 
 pub fn is_packed(n: u64) -> bool

@@ -1,11 +1,10 @@
 -- The fresh state's cells are zeros, and the loop that writes them.
-use Prim.Native.Nat.{ℕ, ◌+◌, ◌<◌}
+use Prim.Native.Nat.{ℕ, ◌+◌}
 use mathlib.Core.Bool.{true}
-use mathlib.Core.List.{List, [], ◌∷◌, ◌++◌, map, append-nil}
+use mathlib.Core.List.{List, [], ◌∷◌, map}
 use mathlib.Core.Path.{◌≡◌, refl, sym, ap, ◌∙◌}
 use native.Mathlib.Omega.{arith}
-use borrow.Author.Fill.{fill_more}
-use lib.ListN.{length, set, drop, replicate, length-replicate, drop_of_length-le}
+use lib.ListN.{length, replicate, length-replicate}
 use Rattle.rules.specs.Text.{all}
 use Rattle.rules.specs.State.{Word, unplaced, different_names, sound_word, no_words, fresh}
 use Rattle.state.specs.Layout.{size, text_cell, tag_cell, zeros, padded, encode}
@@ -64,21 +63,7 @@ fresh_cells =
     let tags : map tag_cell no_words ≡ zeros 4096 = ap (map tag_cell) no_words_lem ∙ none_cells tag_cell 4096 refl in
     (λ i. flat (four_zeros i) (no_table 256 i) (no_table 256 i) (texts i) (tags i)) ∙ all_zeros 4 256 256 4096 4096
 
--- ---- the loop: after i turns the first i cells are 0
-
-pub cleared_none : (l : List ℕ) → l ≡ zeros 0 ++ drop 0 l
+-- as many zeros as the memory has cells
+pub cleared : (before now : List ℕ) → length before ≡ size → now ≡ replicate (length before) 0 → Holds now fresh
 unfolding zeros
-cleared_none l = refl
-
-pub cleared_more : (l now : List ℕ) (i : ℕ) → i < length l → now ≡ zeros i ++ drop i l → set now i 0 ≡ zeros (i + 1) ++ drop (i + 1) l
-unfolding zeros
-cleared_more l now i h e = ap (λ (r : List ℕ). set r i 0) e ∙ fill_more i 0 l h
-
-pub cleared_all : (l now : List ℕ) (i : ℕ) → length l ≡ size → i ≡ size → now ≡ zeros i ++ drop i l → Holds now fresh
-cleared_all l now i e j c =
-    holds now fresh fresh_tidy
-    (c
-    ∙ ap (λ (r : List ℕ). zeros i ++ r) (drop_of_length-le l {i = i} (omega arith))
-    ∙ append-nil (zeros i)
-    ∙ ap zeros j
-    ∙ sym fresh_cells)
+cleared before now l e = holds now fresh fresh_tidy (e ∙ ap (λ n. replicate n 0) l ∙ sym fresh_cells)

@@ -5,8 +5,9 @@ use mathlib.Core.List.{List, [], ◌∷◌, ◌++◌, map}
 use mathlib.Core.Path.{◌≡◌, refl, sym, ap, ap₂, ◌∙◌}
 use native.Mathlib.Nat.{zero-add, suc-add, sub-zero, suc-sub-suc, not-suc-le-zero, le_of_suc-le-suc}
 use native.Mathlib.Omega.{arith}
-use lib.ListN.{length, get_or, set, replicate, length-append, length-replicate, length-map, replicate-append-replicate}
+use lib.ListN.{length, get_or, set, replicate, take, drop, length-append, length-replicate, length-map, replicate-append-replicate}
 use lib.Seq.{get_or-append-add, ext_get_or}
+use Rattle.std.proofs.lemmas.List.{length-take, length-drop, get_or-take, get_or-drop}
 use Rattle.rules.specs.Text.{all}
 use Rattle.state.proofs.BoolLaws.{both, first, second}
 use Rattle.state.specs.Layout.{zeros, padded, numbers, range}
@@ -228,3 +229,15 @@ pub all_replicate : {A : Type 0} (p : A → Bool) (n : ℕ) (a : A) → p a ≡ 
 unfolding all
 all_replicate p zero a e = refl
 all_replicate p (suc n) a e = both (p a) (all p (replicate n a)) e (all_replicate p n a e)
+
+-- the cells from a on that lie below b, by their positions
+module _ (cells : List ℕ) (a b : ℕ) where
+  pub cell_in : (k : ℕ) → k < b - a → get_or (take (b - a) (drop a cells)) k 0 ≡ get_or cells (a + k) 0
+  cell_in k l = get_or-take (b - a) (drop a cells) k 0 l ∙ get_or-drop a cells k 0
+
+  pub region : b ≤ length cells → take (b - a) (drop a cells) ≡ map (λ i. get_or cells (a + i) 0) (range 0 (b - a))
+  region h =
+      sym
+      (map_range (λ i. get_or cells (a + i) 0) (take (b - a) (drop a cells)) (b - a) 0
+      (omega (arith, length-take (b - a) (drop a cells), length-drop a cells))
+      (λ k l. sym (cell_in k l)))

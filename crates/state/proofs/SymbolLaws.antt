@@ -1,7 +1,7 @@
 -- The table of symbols in cells: the loops that go through it.
-use Rattle.std.specs.Prelude.{Some, None}
+use Rattle.std.specs.Prelude.{Some, None, ◌==◌, count_by, slice_range}
 use Prim.Native.Nat.{ℕ, ◌+◌, ◌-◌, ◌≤◌, ◌<◌}
-use mathlib.Core.Bool.{true, ◌||◌}
+use mathlib.Core.Bool.{Bool, true, false, cond, not, ◌||◌}
 use mathlib.Core.List.{List, [], ◌∷◌, map}
 use mathlib.Core.Logic.{◌≢◌}
 use mathlib.Core.Path.{◌≡◌, refl, sym, ap, ◌∙◌}
@@ -12,11 +12,12 @@ use lib.ListN.{length, get_or, get_or-map}
 use lib.Dec.{eqb, leb}
 use Rattle.rules.specs.State.{undefined_only}
 use Rattle.rules.specs.Image.{value_of}
-use Rattle.state.specs.Layout.{value_cell, symbol_in, symbols_from, decode}
+use Rattle.std.proofs.lemmas.List.Sums.{sum_by-cons}
+use Rattle.state.specs.Layout.{value_cell, range, symbol_in, symbols_from, decode}
 use Rattle.state.specs.Good.{sound_value, Good}
 use Rattle.state.specs.Table.{no_symbol, Listing, undefined_position}
 use Rattle.state.proofs.BoolLaws.{first}
-use Rattle.state.proofs.ListLaws.{range_step, range_end, all_at}
+use Rattle.state.proofs.ListLaws.{range_step, range_end, all_at, region}
 use Rattle.state.proofs.LayoutLaws.{count_is, symbol_is_lem, encode_value}
 
 module _ (cells : List ℕ) (i : ℕ) where
@@ -29,18 +30,6 @@ module _ (cells : List ℕ) (i : ℕ) where
   symbols_end h = ap (map (symbol_in cells)) (range_end i (get_or cells 0 0) h)
 
   -- ---- the undefined symbols
-
-  pub undefined_here : i < get_or cells 0 0 → get_or cells (260 + i) 0 ≡ 0 → length (undefined_only (symbols_from cells i)) ≡ length (undefined_only (symbols_from cells (i + 1))) + 1
-  unfolding undefined_only
-  undefined_here h e = rw (symbols_step h, eq-eqb _ _ e) (omega arith)
-
-  pub undefined_not : i < get_or cells 0 0 → get_or cells (260 + i) 0 ≢ 0 → length (undefined_only (symbols_from cells i)) ≡ length (undefined_only (symbols_from cells (i + 1)))
-  unfolding undefined_only
-  undefined_not h e = rw (symbols_step h, ne_eqb _ _ e)
-
-  pub undefined_end : get_or cells 0 0 ≤ i → length (undefined_only (symbols_from cells i)) ≡ 0
-  unfolding undefined_only
-  undefined_end h = rw (symbols_end h)
 
   module _ (k : ℕ) where
     pub position_of_first : i < get_or cells 0 0 → get_or cells (260 + i) 0 ≡ 0 → k ≡ 0 → undefined_position k (symbols_from cells i) ≡ 0
@@ -99,3 +88,24 @@ module _ {cells : List ℕ} (g : Good cells) (i : ℕ) (h : i < get_or cells 0 0
   pub value_defined : get_or cells (260 + i) 0 ≢ 0 → value_of (decode cells).symbols i ≡ get_or cells (260 + i) 0 - 65536
   unfolding value_of
   value_defined e = rw (symbol_is_lem cells i h, ne_eqb _ _ e)
+
+-- how many undefined symbols there are, by the values' cells
+undefined_among : (cells l : List ℕ) → count_by (λ v. v == 0) (map (λ i. get_or cells (260 + i) 0) l) ≡ length (undefined_only (map (symbol_in cells) l))
+unfolding undefined_only
+undefined_among cells [] = refl
+undefined_among cells (i ∷ l) =
+    sum_by-cons (λ v. cond (v == 0) 1 0) (get_or cells (260 + i) 0) (map (λ i. get_or cells (260 + i) 0) l)
+    ∙ go (get_or cells (260 + i) 0 == 0) (undefined_among cells l)
+  where
+    go : (b : Bool) → count_by (λ v. v == 0) (map (λ i. get_or cells (260 + i) 0) l) ≡ length (undefined_only (map (symbol_in cells) l)) → cond b 1 0 + count_by (λ v. v == 0) (map (λ i. get_or cells (260 + i) 0) l) ≡ length (cond (not b) (undefined_only (map (symbol_in cells) l)) (symbol_in cells i ∷ undefined_only (map (symbol_in cells) l)))
+    go true e = omega arith
+    go false e = omega arith
+
+pub undefined_counted : {cells : List ℕ} → Good cells → {r : ℕ} → r ≡ count_by (λ v. v == 0) (slice_range cells 260 (260 + get_or cells 0 0)) → r ≡ length (undefined_only (decode cells).symbols)
+unfolding decode symbols_from
+undefined_counted {cells} g {r} e =
+    let n : 260 + get_or cells 0 0 - 260 ≡ get_or cells 0 0 = omega arith in
+    e
+    ∙ ap (count_by (λ v. v == 0)) (region cells 260 (260 + get_or cells 0 0) (omega (arith, g.long, g.few)))
+    ∙ ap (λ k. count_by (λ v. v == 0) (map (λ i. get_or cells (260 + i) 0) (range 0 k))) n
+    ∙ undefined_among cells (range 0 (get_or cells 0 0))

@@ -1,10 +1,8 @@
 -- How the functions on program words say what they found.
-use Rattle.std.specs.Prelude.{ℕ, ◌≤◌, ◌<◌, List, Option, Some, None, ⊤, ◌≡◌, length, get_or}
-use Rattle.rules.specs.Limits.{program_words}
-use Rattle.rules.specs.State.{Word, unplaced, plain, refers, State, high}
+use Rattle.std.specs.Prelude.{ℕ, ◌<◌, Bool, true, false, List, Option, Some, None, MatchOption, EachIndex, slice_index, ⊤, ◌≡◌, length, get_or}
+use Rattle.rules.specs.State.{Word, unplaced, plain, refers, State}
 use Rattle.state.specs.declared.words.Placed.{Placed}
 use Rattle.state.specs.declared.words.Placed.TheVariants.{Plain, Refers}
-use Rattle.state.specs.Layout.{words_below, decode}
 
 -- a word's tag, if it is placed
 abbrev pub tag_of : Word → Option Placed
@@ -22,7 +20,8 @@ pub record Tagged (s : State) (address : ℕ) (r : Option Placed) : Type 0 where
   pub is : r ≡ tag_of (get_or s.words address unplaced)
   pub inside : WithinTable (length s.symbols) r
 
--- HIGH is that of the words below an address: no word is placed from there on
-pub record HighBelow (cells : List ℕ) (address : ℕ) : Type 0 where
-  pub most : address ≤ program_words
-  pub same : high (words_below cells address) ≡ high (decode cells).words
+-- where the last of these tags stands that passes a test
+abbrev pub LastOf : (ℕ → Bool) → List ℕ → Option ℕ → Type 0
+LastOf test tags r =
+    MatchOption r (EachIndex tags (λ k. test (slice_index tags k) ≡ false))
+    (λ i. (i < length tags) × (test (slice_index tags i) ≡ true) × ((k : ℕ) → i < k → k < length tags → test (slice_index tags k) ≡ false))

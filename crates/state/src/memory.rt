@@ -4,16 +4,10 @@ ghost use Rattle.rules.specs.State.{fresh};
 ghost use Rattle.state.specs.Layout.{size};
 ghost use Rattle.state.specs.Good.{Holds};
 
-use crate::layout::SIZE;
-
 // The fresh state, whatever stood there.
 pub fn reset(state: &mut [u64])
     requires { length state.old ≡ size }
     ensures { Holds state.new fresh }
 {
-    let mut i = 0;
-    while i < SIZE {
-        state[i] = 0;
-        i += 1;
-    }
+    state.fill(0);
 }

@@ -107,15 +107,8 @@ pub fn undefined_count(state: &[u64]) -> usize
     ensures { result ≡ length (undefined_only (decode state.now).symbols) }
 {
     let n = state[COUNT] as usize;
-    let mut found = 0;
-    let mut i = 0;
-    while i < n {
-        if state[VALUES + i] == 0 {
-            found += 1;
-        }
-        i += 1;
-    }
-    found
+    let values = &state[VALUES..VALUES + n];
+    values.iter().filter(|value| **value == 0).count()
 }
 
 // The position of the k-th undefined symbol, from 0, if there is one.
@@ -125,15 +118,13 @@ pub fn undefined_position(state: &[u64], k: u64) -> Option<usize>
 {
     let n = state[COUNT] as usize;
     let mut more = k;
-    let mut i = 0;
-    while i < n {
-        if state[VALUES + i] == 0 {
+    for (i, value) in state[VALUES..VALUES + n].iter().enumerate() {
+        if *value == 0 {
             if more == 0 {
                 return Some(i);
             }
             more -= 1;
         }
-        i += 1;
     }
     None
 }

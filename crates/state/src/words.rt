@@ -1,12 +1,12 @@
 // The program words. An address past the last one holds no word, and nothing is put there.
-ghost use Rattle.std.specs.Prelude.{◌+◌, ◌≤◌, ◌<◌, ◌≡◌, length, get_or, set};
+ghost use Rattle.std.specs.Prelude.{◌≤◌, ◌<◌, ◌≡◌, ◌==◌, not, length, get_or, set};
 ghost use Rattle.rules.specs.Limits.{program_words, most_symbols};
 ghost use Rattle.rules.specs.State.{unplaced, plain, refers, is_placed, highest as highest_in, high as high_in};
 ghost use Rattle.state.specs.Layout.{decode, text_cell};
 ghost use Rattle.state.specs.Good.{Good, Holds, with_words};
-ghost use Rattle.state.specs.Words.{Tagged, HighBelow};
+ghost use Rattle.state.specs.Words.{Tagged, LastOf};
 
-use crate::layout::{LAST_ADDRESS, PLAIN, REFERENCE, TAGS, TEXTS, UNPLACED};
+use crate::layout::{PLAIN, REFERENCE, TAGS, TEXTS, UNPLACED};
 use rules::limits::{NO_ADDRESS, PROGRAM_WORDS};
 
 pub fn is_placed(state: &[u64], address: usize) -> bool
@@ -71,53 +71,27 @@ pub fn tag(state: &[u64], address: usize) -> Option<Placed>
     }
 }
 
+// The last tag of a word that refers as this one does.
+fn last_reference(tags: &[u64], reference: u64) -> Option<usize>
+    ensures { LastOf (λ tag. tag == reference) tags.now result }
+{
+    tags.iter().rposition(|tag| *tag == reference)
+}
+
 // The highest address that refers to a symbol, 65,535 if none.
 pub fn highest(state: &[u64], symbol: usize) -> usize
     requires good { Good state.now }
     requires symbol_le_most_symbols { symbol ≤ most_symbols }
     ensures { result ≡ highest_in symbol (decode state.now).words }
 {
-    let reference = REFERENCE + symbol as u64;
-    let mut i = 0;
-    while i < PROGRAM_WORDS {
-        let a = LAST_ADDRESS - i;
-        if state[TAGS + a] == reference {
-            return a;
-        }
-        i += 1;
-    }
-    NO_ADDRESS
+    last_reference(&state[TAGS..], REFERENCE + symbol as u64).unwrap_or(NO_ADDRESS)
 }
 
-// The tags at eight addresses, added: 0 if no word is placed there, so that HIGH is below them if it is not above. One test serves
-// for eight words.
-fn eight_tags(state: &[u64], address: usize) -> u64
-    requires good { Good state.now }
-    requires address_bound { address + 8 ≤ program_words }
-    ensures { result ≡ 0 → HighBelow state.now (address + 8) → HighBelow state.now address }
+// The last tag of a placed word.
+fn last_placed(tags: &[u64]) -> Option<usize>
+    ensures { LastOf (λ tag. not (tag == 0)) tags.now result }
 {
-    let mut sum = 0;
-    let mut i = 0;
-    while i < 8 {
-        sum += state[TAGS + address + i];
-        i += 1;
-    }
-    sum
-}
-
-// An address from which on no word is placed. How low it is matters for speed alone: `high` looks at each word below it.
-fn unplaced_from(state: &[u64]) -> usize
-    requires { Good state.now }
-    ensures { HighBelow state.now result }
-{
-    let mut n = PROGRAM_WORDS;
-    while 8 <= n {
-        if eight_tags(state, n - 8) != 0 {
-            return n;
-        }
-        n -= 8;
-    }
-    n
+    tags.iter().rposition(|tag| *tag != UNPLACED)
 }
 
 // HIGH: the highest address that holds a placed word, 65,535 if none is placed.
@@ -125,12 +99,5 @@ pub fn high(state: &[u64]) -> usize
     requires { Good state.now }
     ensures { result ≡ high_in (decode state.now).words }
 {
-    let mut n = unplaced_from(state);
-    while 0 < n {
-        n -= 1;
-        if state[TAGS + n] != UNPLACED {
-            return n;
-        }
-    }
-    NO_ADDRESS
+    last_placed(&state[TAGS..]).unwrap_or(NO_ADDRESS)
 }

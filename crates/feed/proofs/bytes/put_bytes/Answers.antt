@@ -11,9 +11,6 @@ loop-i-init c = (omega arith, put_start _ _ _ c.requires.feed_value)
 pub bounds-feed-cell : goal.bounds-feed-cell
 bounds-feed-cell c = put_inside c.args.feed.now _ _ _ _ c.shared_slice_known-1.given c.requires.piece_bound c.loop-i-test.true c.loop-i.invariant.1
 
-pub overflow_cast-feed : goal.overflow_cast-feed
-overflow_cast-feed c = omega (arith, c.shared_slice_known-in-loop-i-1.given c.loop-i.i)
-
 pub overflow_mul-feed : goal.overflow_mul-feed
 overflow_mul-feed c = omega (arith, put_fits c.args.feed.now _ _ _ _ c.shared_slice_known-1.given c.requires.piece_bound c.loop-i-test.true c.loop-i.invariant.1 _ c.power.ensures)
 

@@ -1,5 +1,4 @@
 use Prim.Native.Nat.{ℕ}
-use mathlib.Core.Path.{sym}
 use native.Mathlib.Omega.{arith}
 use lib.ListN.{replicate, length-replicate}
 use Rattle.state.proofs.BoolLaws.{refused}
@@ -10,9 +9,6 @@ use Rattle.soundness.proofs.cells.names_differ.Goals as goal
 
 pub loop-i-init : goal.loop-i-init
 loop-i-init c = behind_start c.args.state.now c.args.n (replicate {A = ℕ} 4096 0) (length-replicate {A = ℕ} 4096 0)
-
-pub slice_bounds-stands_alone-end : goal.slice_bounds-stands_alone-end
-slice_bounds-stands_alone-end c = sym c.loop-i.invariant.has.size
 
 pub stands_alone-requires : goal.stands_alone-requires
 stands_alone-requires c = record { state_len = c.requires.state_len; i_lt_n = (omega (arith, c.loop-i.invariant.within), c.requires.n_le_most_symbols); has_met = behind_has c.args.state.now c.args.n c.loop-i.met c.loop-i.i c.loop-i.invariant c.loop-i-test.true }

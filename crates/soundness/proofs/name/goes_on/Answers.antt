@@ -1,8 +1,6 @@
-use borrow.Author.Tests.{eq-eqb, ne_eqb}
+use Rattle.std.proofs.Common.{arith}
+use Rattle.std.proofs.lemmas.Grind.{common_steps}
 use Rattle.soundness.proofs.name.goes_on.Goals as goal
 
 pub returns-then-rest-eq0 : goal.returns-then-rest-eq0
-returns-then-rest-eq0 c = rw (eq-eqb _ 0 c.if-rest-eq0.true)
-
-pub returns : goal.returns
-returns c = rw (ne_eqb _ 0 c.if-rest-eq0.false) c.is_name_character.ensures
+returns-then-rest-eq0 c = grind (arith, common_steps)

@@ -1,8 +1,0 @@
-use Rattle.state.specs.Words.{HighBelow}
-use Rattle.state.proofs.words.high.Given as goal
-
-abbrev pub invariant-loop-n : goal.invariant-loop-n
-invariant-loop-n l = HighBelow l.state l.n
-
-abbrev pub decreases-loop-n : goal.decreases-loop-n
-decreases-loop-n l = l.n
