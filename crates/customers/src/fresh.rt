@@ -11,6 +11,7 @@ use rules::answer::{
 };
 
 // RESET is done on any memory of its length, and refuses any other.
+#[tactic(auto, using(crate::proofs::FreshLaws::reset_kept))]
 pub fn reset(state: &mut [u64]) -> CallAnswer
     ensures { ResetKept state.old result state.new }
 {
@@ -18,6 +19,7 @@ pub fn reset(state: &mut [u64]) -> CallAnswer
 }
 
 // After RESET no symbol is listed, at any index.
+#[tactic(auto, using(crate::proofs::FreshLaws::nothing_listed))]
 pub fn reset_then_list(state: &mut [u64], index: u64) -> SymbolAnswer
     ensures { HasLength state.old → result ≡ symbol_none 0 1 }
 {
@@ -26,6 +28,7 @@ pub fn reset_then_list(state: &mut [u64], index: u64) -> SymbolAnswer
 }
 
 // After RESET no symbol is undefined.
+#[tactic(auto, using(crate::proofs::FreshLaws::nothing_undefined))]
 pub fn reset_then_list_undefined(state: &mut [u64], index: u64) -> UndefinedAnswer
     ensures { HasLength state.old → result ≡ undefined_none 0 1 }
 {
@@ -34,6 +37,7 @@ pub fn reset_then_list_undefined(state: &mut [u64], index: u64) -> UndefinedAnsw
 }
 
 // After RESET there is no highest address.
+#[tactic(auto, using(crate::proofs::FreshLaws::nothing_high))]
 pub fn reset_then_ask(state: &mut [u64]) -> MemoryAnswer
     ensures { HasLength state.old → result ≡ memory_answer 0 65535 }
 {
@@ -49,6 +53,7 @@ pub struct LinkAnswers {
 }
 
 // A link of one file, from RESET to the image.
+#[tactic(auto, using(crate::proofs::FreshLaws::linked))]
 pub fn link(state: &mut [u64], work: &mut [u64], file: &[u8], out: &mut [u8]) -> LinkAnswers
     ensures { Linked (memories state.old work.old out.old) file.now result.load result.end (memories state.new work.new out.new) }
 {

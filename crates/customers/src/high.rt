@@ -8,6 +8,7 @@ use rules::answer::MemoryAnswer;
 // Each asks MEMORY twice, and answers both of its answers.
 
 // Whatever is forced, MEMORY answers as it did.
+#[tactic(auto, using(crate::proofs::StepLaws::force_same))]
 pub fn force_between(state: &mut [u64], name: &[u8]) -> (MemoryAnswer, MemoryAnswer)
     ensures { result.1 ≡ result.0 }
 {
@@ -18,6 +19,7 @@ pub fn force_between(state: &mut [u64], name: &[u8]) -> (MemoryAnswer, MemoryAns
 }
 
 // Wherever the base moves, MEMORY answers as it did.
+#[tactic(auto, using(crate::proofs::StepLaws::base_same))]
 pub fn base_between(state: &mut [u64], address: u64) -> (MemoryAnswer, MemoryAnswer)
     ensures { result.1 ≡ result.0 }
 {

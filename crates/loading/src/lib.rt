@@ -4,7 +4,8 @@
 ghost use Rattle.std.specs.Prelude.{◌≤◌, ◌≡◌, length};
 ghost use Rattle.rules.specs.Limits.{longest_file, work_size};
 ghost use Rattle.rules.specs.Load.{walked, walk_from, load_file};
-ghost use Rattle.rules.specs.Calls.{load_answer, load_outcome, load_lent, load as load_called};
+ghost use Rattle.rules.specs.Calls.{load_outcome, load_lent, load as load_called};
+ghost use Rattle.rules.specs.Outcomes.{load_told};
 ghost use Rattle.rules.specs.History.{work_fits};
 ghost use Rattle.rules.proofs.TestLaws.{Every};
 ghost use Rattle.rules.proofs.ReadingLaws.{ItemSound};
@@ -13,81 +14,63 @@ ghost use Rattle.state.specs.Layout.{lent, decode};
 ghost use Rattle.state.specs.Good.{Good};
 ghost use Rattle.state.specs.Promise.{Called, LoadCalled};
 
-use cells::{clear, copy};
 use reading::read_file;
-use rules::answer::{BUFFER, DONE, LoadAnswer, TOO_LONG};
+use rules::answer::{DONE, LoadAnswer, Reason};
 use rules::limits::LONGEST_FILE;
-use soundness::memory::refusal;
+use rules::outcome::LoadFault;
+use soundness::memory::check;
 use state::header::{set_mark, shut_by};
-use state::layout::{BROKEN, SIZE};
+use state::layout::{Mark, SIZE};
 use tables::cells::{PART_ROOM, ROW_ROOM};
 use walking::walk;
 
 // The fixed length of work memory, which holds the parts of a file's modules.
 const WORK_CELLS: usize = PART_ROOM;
 
-fn answer(number: u64, line: u64, column: u64, rounds: u64) -> LoadAnswer
-    ensures { result ≡ load_answer number line column rounds }
-{
-    LoadAnswer {
-        number,
-        line,
-        column,
-        rounds,
-    }
-}
-
-// The walk over n rows. A refusal leaves the state as it was, but for the broken mark.
-fn walk_file(parts: &[u64], rows: &[u64], n: usize, state: &mut [u64]) -> LoadAnswer
+// The walk over n rows; the answer is its rounds. A refusal leaves the state as it was, but for the broken mark.
+fn walk_file(parts: &[u64], rows: &[u64], n: usize, state: &mut [u64]) -> Result<usize, LoadFault>
     requires n_le_most_cells { (n ≤ most_cells) × (length parts.now ≤ most_cells) }
     requires every { Every ItemSound (items_in parts.now rows.now n) }
     requires good { Good state.old }
-    ensures { Called (load_outcome (walked (decode state.old) (walk_from (decode state.old) (items_in parts.now rows.now n)))) state.old result state.new }
+    ensures { Called (load_outcome (walked (decode state.old) (walk_from (decode state.old) (items_in parts.now rows.now n)))) state.old (load_told result) state.new }
 {
     let mut before = [0u64; SIZE];
-    copy(state, &mut before);
+    before.copy_from_slice(state);
     let far = walk(parts, rows, n, state);
     if far.refusal.number == DONE {
-        return answer(DONE, 0, 0, far.rounds as u64);
+        return Ok(far.rounds);
     }
-    copy(&before, state);
-    set_mark(state, BROKEN);
-    answer(far.refusal.number, far.refusal.line, 0, 0)
+    state.copy_from_slice(&before);
+    set_mark(state, Mark::Broken);
+    Err(far.refusal.into())
 }
 
 // The reading, into the caller's work memory and rows of its own; then the walk.
-fn load_file(state: &mut [u64], work: &mut [u64], file: &[u8]) -> LoadAnswer
+fn load_file(state: &mut [u64], work: &mut [u64], file: &[u8]) -> Result<usize, LoadFault>
     requires good { Good state.old }
     requires work_len { (length work.old ≡ work_size) × (length file.now ≤ longest_file) }
-    ensures { Called (load_outcome (load_file (decode state.old) file.now)) state.old result state.new }
+    ensures { Called (load_outcome (load_file (decode state.old) file.now)) state.old (load_told result) state.new }
 {
     let mut rows = [0u64; ROW_ROOM];
     let f = read_file(file, work, &mut rows);
     let reading = f.reading;
-    match reading {
-        Err(stop) => {
-            set_mark(state, BROKEN);
-            answer(stop.number, stop.line as u64, stop.column as u64, 0)
-        }
-        Ok(_) => walk_file(work, &rows, f.rows, state),
+    if let Err(stop) = reading {
+        set_mark(state, Mark::Broken);
+        return Err(stop.into());
     }
+    walk_file(work, &rows, f.rows, state)
 }
 
 // The tests of the state and of the file's length, then the file.
-fn load_tested(state: &mut [u64], work: &mut [u64], file: &[u8]) -> LoadAnswer
+#[tactic(auto, using(crate::proofs::LoadingLaws::load_unsound, crate::proofs::LoadingLaws::load_shut, crate::proofs::LoadingLaws::load_long))]
+fn try_load(state: &mut [u64], work: &mut [u64], file: &[u8]) -> Result<usize, LoadFault>
     requires { length work.old ≡ work_size }
-    ensures { Called (load_lent (lent state.old) file.now) state.old result state.new }
+    ensures { Called (load_lent (lent state.old) file.now) state.old (load_told result) state.new }
 {
-    let k = refusal(state);
-    if k != DONE {
-        return answer(k, 0, 0, 0);
-    }
-    let shut = shut_by(state);
-    if shut != DONE {
-        return answer(shut, 0, 0, 0);
-    }
+    check(state)?;
+    shut_by(state)?;
     if LONGEST_FILE < file.len() {
-        return answer(TOO_LONG, 0, 0, 0);
+        return Err(Reason::TooLong.into());
     }
     load_file(state, work, file)
 }
@@ -97,9 +80,9 @@ pub fn load(state: &mut [u64], work: &mut [u64], file: &[u8]) -> LoadAnswer
     ensures { LoadCalled (load_called (lent state.old) (work_fits work.old) file.now) state.old work.old result state.new work.new }
 {
     if work.len() != WORK_CELLS {
-        return answer(BUFFER, 0, 0, 0);
+        return LoadAnswer::from(Err(LoadFault::from(Reason::Buffer)));
     }
-    let a = load_tested(state, work, file);
-    clear(work, WORK_CELLS);
-    a
+    let outcome = try_load(state, work, file);
+    work.fill(0);
+    outcome.into()
 }

@@ -11,7 +11,7 @@ pub mod Search
 pub mod Load
 pub mod Image
 pub mod Calls
-pub mod Outcomes
 pub mod Feed
+pub mod Outcomes
 pub mod Demand
 pub mod History

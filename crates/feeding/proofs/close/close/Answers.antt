@@ -1,45 +1,29 @@
--- `feeding::close` meets its contract.
--- Assumes nothing.
-use Prim.Native.Nat.{◌-◌}
 use native.Mathlib.Omega.{arith}
 use mathlib.Core.Path.{refl, sym, ap, ◌∙◌}
-use lib.ListN.{get_or, take}
+use lib.ListN.{take}
 use lib.Seq.{length-take-le}
 use Rattle.state.specs.Layout.{zeros}
 use Rattle.feed.proofs.StoreLaws.{unpacked_all, unpacked_length}
-use Rattle.feeding.proofs.FeedingLaws.{close_refused, close_none, close_done, close_stopped_lem, close_loaded, cleared, total_most}
+use Rattle.feeding.proofs.FeedingLaws.{close_unopened, close_done, close_loaded, cleared, total_most}
 use Rattle.feeding.proofs.close.close.Goals as goal
-
-pub returns-then-k-ne-DONE : goal.returns-then-k-ne-DONE
-returns-then-k-ne-DONE c = close_stopped_lem c.args.feed.now _ _ (close_refused c.args.feed.now c.refusal-k.ensures c.if-k-ne-DONE.true _ _) c.refuse.ensures.0 c.refuse.ensures.1
-
-pub bounds-feed-0 : goal.bounds-feed-0
-bounds-feed-0 c = omega (arith, (c.refusal-k.ensures.good c.if-k-ne-DONE.false).long)
-
-pub returns-then-feed-eq0 : goal.returns-then-feed-eq0
-returns-then-feed-eq0 c = close_stopped_lem c.args.feed.now _ _ (close_none c.args.feed.now (c.refusal-k.ensures.good c.if-k-ne-DONE.false) c.if-feed-eq0.true _ _) c.refuse-then-feed-eq0.ensures.0 c.refuse-then-feed-eq0.ensures.1
-
-pub bounds-feed-0-2 : goal.bounds-feed-0-2
-bounds-feed-0-2 c = omega (arith, (c.refusal-k.ensures.good c.if-k-ne-DONE.false).long)
 
 pub unpack-requires : goal.unpack-requires
 unfolding zeros
-unpack-requires c = record { feed_len = (c.refusal-k.ensures.good c.if-k-ne-DONE.false).long; n_le_byte_cells = omega arith; file_value = refl }
+unpack-requires c = record { feed_len = c.in-Ok.ensures.0.long; n_le_byte_cells = omega arith; file_value = refl }
 
 pub slice_bounds-file-end : goal.slice_bounds-file-end
-slice_bounds-file-end c = omega (arith, unpacked_length _ _ _ c.unpack.ensures, total_most c.args.feed.now (c.refusal-k.ensures.good c.if-k-ne-DONE.false) c.if-feed-eq0.false)
+slice_bounds-file-end c = omega (arith, unpacked_length _ _ _ c.unpack.ensures, total_most c.args.feed.now c.in-Ok.ensures.0 _ c.in-Ok.ensures.1)
 
 pub slice_bounds-load-end : goal.slice_bounds-load-end
-slice_bounds-load-end c = sym (length-take-le _ _ (omega (arith, unpacked_length _ _ _ c.unpack.ensures, total_most c.args.feed.now (c.refusal-k.ensures.good c.if-k-ne-DONE.false) c.if-feed-eq0.false)))
+slice_bounds-load-end c = sym (length-take-le _ _ (omega (arith, unpacked_length _ _ _ c.unpack.ensures, total_most c.args.feed.now c.in-Ok.ensures.0 _ c.in-Ok.ensures.1)))
 
-pub clear-requires : goal.clear-requires
-clear-requires c = omega (arith, (c.refusal-k.ensures.good c.if-k-ne-DONE.false).long)
+pub returns-in-Ok : goal.returns-in-Ok
+returns-in-Ok c =
+    let s = c.in-Ok.ensures.0 in
+    let some = c.in-Ok.ensures.1 in
+    close_loaded _ _ (close_done c.args.feed.now s c.in-Ok.total some _ _)
+    (ap (take c.in-Ok.total) c.unpack.ensures ∙ unpacked_all c.args.feed.now c.in-Ok.total s.long (total_most c.args.feed.now s c.in-Ok.total some))
+    c.load-answer.ensures (cleared _ s.long (c.fill.ensures.after (λ y e. e)))
 
-pub returns : goal.returns
-returns c =
-    let s = (c.refusal-k.ensures.good c.if-k-ne-DONE.false) in
-    let some = c.if-feed-eq0.false in
-    let total = get_or c.args.feed.now 0 0 - 1 in
-    close_loaded c.args.feed.now _ _ (close_done c.args.feed.now s some _ _)
-    (ap (take total) c.unpack.ensures ∙ unpacked_all c.args.feed.now total s.long (total_most c.args.feed.now s some))
-    c.load-a.ensures (c.clear.ensures ∙ cleared c.args.feed.now s.long)
+pub returns-in-Err : goal.returns-in-Err
+returns-in-Err c = close_unopened _ _ _ c.in-Err.ensures c.refuse.ensures.0 c.refuse.ensures.1
