@@ -26,7 +26,7 @@ pub fn digits(line: &[u8], at: usize) -> DigitRun
         if digit < b'0' || b'7' < digit {
             return DigitRun { value, end: i };
         }
-        value = value * 8 + (digit - b'0') as u32;
+        value = value * 8 + u32::from(digit - b'0');
     }
     DigitRun { value, end: most }
 }

@@ -23,8 +23,8 @@ overflow_add-value c = omega (arith, run_room c.loop-i.invariant)
 
 pub loop-i-preserved : goal.loop-i-preserved
 loop-i-preserved c =
-    run_step c.loop-i.invariant (search rules) (search rules)
-    c.if-digit-lt48.false c.if-digit-gt55.false
+    rw c.from.ensures
+    (run_step c.loop-i.invariant (search rules) (search rules) c.if-digit-lt48.false c.if-digit-gt55.false)
 
 pub returns : goal.returns
 returns c =
