@@ -2,7 +2,7 @@
 -- Assumes nothing.
 use Prim.Native.Nat.{ℕ, ◌+◌, ◌≤◌}
 use native.Mathlib.Omega.{arith}
-use mathlib.Core.Bool.{Bool, true, false, true≢false, cond}
+use mathlib.Core.Bool.{Bool, true, false, cond}
 use mathlib.Core.List.{List, [], ◌∷◌}
 use mathlib.Core.Option.{Option, none, some}
 use mathlib.Core.Path.{◌≡◌, refl, sym, ap, ◌∙◌}
@@ -22,10 +22,6 @@ use Rattle.rules.proofs.TestLaws.{between_high}
 use Rattle.line.specs.Fields.{FieldLeft, FieldAs, FieldWrong}
 use Rattle.line.proofs.FieldLaws.{later, this}
 use Rattle.line.proofs.FitLaws.{Fitting, line_start, line_more, line_wrong, line_many, line_end}
-
--- what is declined promises nothing
-pub declined : {A : Type 0} {b : Bool} → b ≡ false → b ≡ true → A
-declined e f = absurd (true≢false (sym f ∙ e))
 
 -- ---- the type
 
