@@ -36,7 +36,7 @@ fn usual_line(file: &[u8], at: usize, expected: Expected) -> Option<usize>
     }
 }
 
-// The records from `at` on, at most so many.
+// The records from `at` on, at most so many. Kept: a `while`, since the count is part of the answer; a `for` would have to make that twice.
 pub fn read_records(file: &[u8], at: usize, expected: Expected, most: usize) -> Run
     requires { at ≤ length file.now }
     ensures { RecordsRead expected at file.now most result }
