@@ -4,7 +4,7 @@ use mathlib.Core.List.{List, ◌++◌}
 use mathlib.Core.Path.{◌≡◌, refl, sym, ap, subst, ◌∙◌}
 use native.Mathlib.Omega.{arith}
 use lib.ListN.{length, take, drop, take-append-drop}
-use lib.Seq.{take-take, length-take-le}
+use lib.Seq.{take-take}
 use Rattle.std.specs.Prelude.{Ok, Err, MatchResult, IsOkAnd}
 use Rattle.rules.specs.Text.{lines_of}
 use Rattle.rules.specs.Reading.{at_start, if_complete, Reading, Complete}
@@ -17,9 +17,6 @@ use Rattle.reading.specs.declared.Place.{Place}
 use Rattle.reading.specs.declared.Clean.{Clean}
 use Rattle.reading.proofs.GoLaws.{lines_fault, behind, go_append}
 use Rattle.advising.specs.Whole.{LinesEnd, early_fault}
-
-pub front_long : (n : ℕ) (file : List ℕ) → n ≤ length file → length (take n file) ≡ n
-front_long n file h = length-take-le n file h
 
 -- the line behind clean ones
 pub next_line_lem : {file : List ℕ} {p : Place} {r : Reached} → ReadOn file p r → {c : Clean} → r ≡ Ok c → c.line ≤ length file + 1
