@@ -6,3 +6,7 @@ use Rattle.soundness.proofs.cells.word_sound.Goals as goal
 pub returns-then-tag-eq-UNPLACED : goal.returns-then-tag-eq-UNPLACED
 unfolding word_sound
 returns-then-tag-eq-UNPLACED c = grind (arith, common_steps)
+
+pub returns : goal.returns
+unfolding word_sound
+returns c = grind (arith, common_steps)
