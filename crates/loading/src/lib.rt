@@ -22,6 +22,7 @@ use soundness::memory::check;
 use state::header::{set_mark, shut_by};
 use state::layout::{Mark, SIZE};
 use tables::cells::{PART_ROOM, ROW_ROOM};
+use tables::rows::Tables;
 use walking::walk;
 
 // The fixed length of work memory, which holds the parts of a file's modules.
@@ -36,7 +37,7 @@ fn walk_file(parts: &[u64], rows: &[u64], n: usize, state: &mut [u64]) -> Result
 {
     let mut before = [0u64; SIZE];
     before.copy_from_slice(state);
-    let far = walk(parts, rows, n, state);
+    let far = walk(Tables { parts, rows }, n, state);
     if far.refusal.number == DONE {
         return Ok(far.rounds);
     }
