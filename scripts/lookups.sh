@@ -28,7 +28,7 @@ places() {
       awk -v crate="$crate" '
         /^(pub )?fn / { split($0, word, /fn |\(/); name = word[2]; next }
         /^ *(\/\/|use |ghost |requires |ensures )/ { next }
-        crate != "state" && /[^_a-z](name_at|symbol_at)\(/ {
+        crate != "state" && /[^_a-z](name_at|symbol_at)\(state/ {
           print crate, name, (/symbol_at/ ? "symbol_at" : "name_at")
         }
         crate != "state" && crate != "soundness" && /[^_a-z]state\[/ { print crate, name, "a cell" }
@@ -38,8 +38,8 @@ places() {
 }
 
 found=$(places | sort)
-expected='listings symbols symbol_at
-listings undefined symbol_at
+expected='listings try_symbols symbol_at
+listings try_undefined symbol_at
 order hint_all name_at
 order make name_at
 order seek name_at
@@ -51,4 +51,4 @@ if [ "$found" != "$expected" ]; then
 fi
 echo "A name of the table is read by a turn of the search (order seek), as the order and its hints are made (order make, hint_all), of"
 echo "each undefined symbol that is looked for among a section's entries (search mark_undefined), and of the symbol at an index that is"
-echo "listed (listings symbols, undefined); nowhere else but in the test of soundness, which compares the names with each other."
+echo "listed (listings try_symbols, try_undefined); nowhere else but in the test of soundness, which compares the names with each other."
