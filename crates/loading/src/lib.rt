@@ -29,15 +29,15 @@ use walking::walk;
 const WORK_CELLS: usize = PART_ROOM;
 
 // The walk over n rows; the answer is its rounds. A refusal leaves the state as it was, but for the broken mark.
-fn walk_file(parts: &[u64], rows: &[u64], n: usize, state: &mut [u64]) -> Result<usize, LoadFault>
-    requires n_le_most_cells { (n ≤ most_cells) × (length parts.now ≤ most_cells) }
-    requires every { Every ItemSound (items_in parts.now rows.now n) }
+fn walk_file(tables: Tables, n: usize, state: &mut [u64]) -> Result<usize, LoadFault>
+    requires n_le_most_cells { (n ≤ most_cells) × (length tables.parts.now ≤ most_cells) }
+    requires every { Every ItemSound (items_in tables.parts.now tables.rows.now n) }
     requires good { Good state.old }
-    ensures { Called (load_outcome (walked (decode state.old) (walk_from (decode state.old) (items_in parts.now rows.now n)))) state.old (load_told result) state.new }
+    ensures { Called (load_outcome (walked (decode state.old) (walk_from (decode state.old) (items_in tables.entry.parts.now tables.entry.rows.now n)))) state.old (load_told result) state.new }
 {
     let mut before = [0u64; SIZE];
     before.copy_from_slice(state);
-    let far = walk(Tables { parts, rows }, n, state);
+    let far = walk(tables, n, state);
     if far.refusal.number == DONE {
         return Ok(far.rounds);
     }
@@ -59,7 +59,8 @@ fn load_file(state: &mut [u64], work: &mut [u64], file: &[u8]) -> Result<usize, 
         set_mark(state, Mark::Broken);
         return Err(stop.into());
     }
-    walk_file(work, &rows, f.rows, state)
+    let parts: &[u64] = work;
+    walk_file(Tables { parts, rows: &rows }, f.rows, state)
 }
 
 // The tests of the state and of the file's length, then the file.
