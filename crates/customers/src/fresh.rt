@@ -46,6 +46,7 @@ pub fn reset_then_ask(state: &mut [u64]) -> MemoryAnswer
 }
 
 // What a link answers: its LOAD and its END.
+// Kept: a struct where the other customers answer pairs, since its names part the four answers of two links.
 #[derive(Clone, Copy)]
 pub struct LinkAnswers {
     pub load: LoadAnswer,

@@ -18,6 +18,7 @@ pub fn power(k: usize) -> u64
 }
 
 // How many bytes stand in the cells, by the first of them.
+// Kept: 0 where no load is open, and no Option: the definition `standing` counts so, and both cases ask for cells that are all zero.
 fn standing(mark: u64) -> usize
     requires { mark ≤ 65538 }
     ensures { result ≡ standing mark }

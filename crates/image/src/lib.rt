@@ -109,6 +109,7 @@ impl Output<'_> {
 }
 
 // How many bytes the image has.
+// Kept: a loop. `(0..n).filter(..).count()` proves too, but its machine code tests one word at a time.
 #[tactic(auto, using(crate::proofs::WriteLaws::count_from, crate::proofs::WriteLaws::count_end, rules::proofs::ImageLaws::image_length_lem))]
 pub fn image_length(state: &[u64]) -> usize
     requires { Good state.now }

@@ -29,6 +29,7 @@ pub fn memory(state: &[u64]) -> MemoryAnswer
 }
 
 // A symbol; past the end none is 1.
+// Kept: a function and no From, since neither of its two types is of this crate.
 fn symbol_answer(told: Result<Option<Listed>, Reason>) -> SymbolAnswer
     ensures { result ≡ symbol_told told }
 {

@@ -94,6 +94,7 @@ pub fn read_lines(
     let mut filled = nothing();
     let mut line = from.line;
     let mut at = from.at;
+    // Kept: a while, since a turn goes on by the bytes of a line, of a run or of a word.
     while at < file.len() {
         let n = line;
         line += 1;

@@ -85,6 +85,7 @@ pub fn search(library: Library, refusal: Refusal, order: &mut Order, state: &mut
     let mut took = 1;
     let mut told = refusal;
     let mut rounds = 0;
+    // Kept: a while, since the rounds are counted for the answer and end by what a round took.
     while 0 < took {
         let round = one_round(library, told, &mut candidates, &mut taken, order, state);
         took = round.took;

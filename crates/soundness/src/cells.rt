@@ -1,6 +1,7 @@
 // The tests of soundness, each over a region of state memory.
 ghost use Rattle.std.specs.Prelude.{◌+◌, ◌<◌, ◌≤◌, ◌≡◌, ◌==◌, ◌&&◌, not, length, drop};
-ghost use Rattle.std.specs.List.{list_all, zip};
+ghost use Rattle.std.specs.List.{fold, list_all, zip};
+ghost use Rattle.std.specs.Int.Bits.{bit_or};
 ghost use Rattle.rules.specs.Text.{is_packed};
 ghost use Rattle.rules.specs.Limits.{most_symbols};
 ghost use Rattle.state.specs.Layout.{size};
@@ -23,11 +24,18 @@ pub fn header_sound(state: &[u64]) -> bool
         && state[SPARE] == 0
 }
 
-// Are the cells from one on zero?
+// The union of the cells from one on. No test ends it early, so that the machine takes several cells at a time.
+fn union_from(cells: &[u64], from: usize) -> u64
+    ensures { result ≡ fold bit_or 0 (drop from cells.now) }
+{
+    cells.iter().skip(from).fold(0, |all, cell| all | *cell)
+}
+
+// Are the cells from one on zero? With `all` a call on a full state takes up to twice as long.
 fn zero_from(cells: &[u64], from: usize) -> bool
     ensures { result ≡ list_all (λ cell. cell == 0) (drop from cells.now) }
 {
-    cells.iter().skip(from).all(|cell| *cell == 0)
+    union_from(cells, from) == 0
 }
 
 pub fn zero_between(state: &[u64], from: usize, to: usize) -> bool

@@ -18,6 +18,7 @@ fn goes_on(rest: u64, b: u8) -> bool
     rest == 0 || is_name_character(b)
 }
 
+// Kept: a return at each test. As one condition its answers for the fourth and the fifth character stayed open.
 pub fn is_packed(n: u64) -> bool
     ensures { result ≡ is_packed n }
 {

@@ -486,14 +486,19 @@ fn stored_names(rt: &impl Print) {
     damaged(rt, "stored: ABCDE/", 5, 0x4142_4344_452f);
 }
 
+// The first cells, or all of them where there are not so many.
+fn front(cells: &mut [u64], size: usize) -> &mut [u64] {
+    let n = size.min(cells.len());
+    &mut cells[..n]
+}
+
 // Each call on so many cells of one value.
 fn lend(rt: &impl Print, size: usize, cell: u64) {
     let _ = print!(rt; "cells {size} of {cell}:");
     for call in &CALLS {
         let mut cells = [cell; STATE_CELLS + 1];
         let mut out = UNTOUCHED;
-        let lent = &mut cells[..size.min(STATE_CELLS + 1)];
-        numbers(rt, &[call.number(lent, &mut out)]);
+        numbers(rt, &[call.number(front(&mut cells, size), &mut out)]);
         tell_touched(rt, cells.iter().all(|c| *c == cell), &out);
     }
     end_line(rt);

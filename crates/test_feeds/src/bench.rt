@@ -263,7 +263,7 @@ impl Bench {
     }
 }
 
-fn put<T>(cells: &mut [T], at: usize, value: T) {
+fn put<T: Copy>(cells: &mut [T], at: usize, value: T) {
     if let Some(cell) = cells.get_mut(at) {
         *cell = value;
     }

@@ -14,6 +14,7 @@ pub fn load(state: &mut State, file: &[u8]) -> LoadAnswer {
 }
 
 // A file, the state that it is loaded from, and what its LOAD answers and leaves.
+#[derive(Clone, Copy)]
 struct Loaded<'a> {
     file: &'a [u8],
     from: &'a State,
