@@ -41,9 +41,9 @@ P
     ;;
   6) grep -rnE ': \[(u8|u16|u64|bool); [A-Z0-9_]+\]|^ *(let mut )?[a-z_]+ = \[.*; [A-Z0-9_]+\]' "${sources[@]}" ;;
   7) grep -rnE '^ *match (letter|shape|code|kind|k|number|key|command)\b.*\{' "${sources[@]}" ;;
-  8a) find crates -path '*/proofs/*' -name Answers.antt ;;
-  8b) find crates -path '*/proofs/*' -name Answers.antt -exec cat {} + ;;
-  8c) find crates -path '*/proofs/*' -name '*.antt' -exec cat {} + ;;
+  8a) find crates -path '*/out' -prune -o -path '*/proofs/*' -name Answers.antt -print ;;
+  8b) find crates -path '*/out' -prune -o -path '*/proofs/*' -name Answers.antt -exec cat {} + ;;
+  8c) find crates -path '*/out' -prune -o -path '*/proofs/*' -name '*.antt' -exec cat {} + ;;
   esac
 }
 

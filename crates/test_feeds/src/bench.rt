@@ -43,6 +43,11 @@ fn file_below<'a>(script: &mut Script<'a>) -> &'a [u8] {
     file.text
 }
 
+// The bytes of the text from one position to another; all where the two do not lie so.
+fn part(text: &[u8], from: usize, to: usize) -> &[u8] {
+    text.get(from..to).unwrap_or(text)
+}
+
 impl Bench {
     pub fn new() -> Self {
         Bench {
@@ -50,11 +55,6 @@ impl Bench {
             feed: NO_FEED,
             state: NO_STATE,
         }
-    }
-
-    // The bytes of the text from one position to another.
-    fn part(&self, from: usize, to: usize) -> &[u8] {
-        self.text.get(from..to).unwrap_or(&self.text)
     }
 
     // A line of a run; the file of V, L and T stands below it.
@@ -154,18 +154,31 @@ impl Bench {
     // Where the bytes in front of the piece are what has been fed.
     fn piece(&mut self, rt: &impl Print, size: usize, from: usize, to: usize) {
         let before = self.feed;
-        let piece = self.text.get(from..to).unwrap_or(&self.text);
+        let piece = part(&self.text, from, to);
         let _ = print!(rt; "FEED {}:", piece.len());
         piece_answer(rt, lnk100_feed(front(&mut self.feed, size), piece));
-        tell_feed(rt, &before, &self.feed, self.part(0, to));
+        tell_feed(rt, &before, &self.feed, part(&self.text, 0, to));
         end_line(rt);
     }
 
     // Behind what has been fed, which is the text up to a position.
     fn pieces_from(&mut self, rt: &impl Print, from: usize, pieces: usize) {
         let before = self.feed;
-        self.feed_quiet(rt, pieces, |k| from + 512 * k);
-        tell_feed(rt, &before, &self.feed, self.part(0, from + 512 * pieces));
+        self.feed_quiet(
+            rt,
+            pieces,
+            |k: usize| from.saturating_add(k.saturating_mul(512)),
+        );
+        tell_feed(
+            rt,
+            &before,
+            &self.feed,
+            part(
+                &self.text,
+                0,
+                from.saturating_add(pieces.saturating_mul(512)),
+            ),
+        );
         end_line(rt);
     }
 
@@ -184,11 +197,8 @@ impl Bench {
         let mut quiet: u64 = 0;
         for k in 0..pieces {
             let from = start(k);
-            let piece = self
-                .text
-                .get(from..from.saturating_add(512))
-                .unwrap_or(&self.text);
-            let a = lnk100_feed(&mut self.feed[..FEED_CELLS], piece);
+            let piece = part(&self.text, from, from.saturating_add(512));
+            let a = lnk100_feed(front(&mut self.feed, FEED_CELLS), piece);
             let is_quiet = a.number == 0 && a.advice == 0 && a.line == 0 && a.column == 0;
             quiet = quiet.saturating_add(u64::from(is_quiet));
         }
@@ -226,7 +236,7 @@ impl Bench {
         let mut other = self.state;
         self.close(rt, b"");
         say(rt, b"; LOAD");
-        load_answer(rt, load(&mut other, self.part(0, to)));
+        load_answer(rt, load(&mut other, part(&self.text, 0, to)));
         say(
             rt,
             if self.state == other {

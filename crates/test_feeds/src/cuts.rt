@@ -1,11 +1,11 @@
 // A file of the script: cut in two at every place, in single bytes, and with empty pieces between. Of each, which pieces advise, and
 // whether the close answers and leaves what one LOAD of the file does.
-use crate::memory::{Feed, NO_FEED, State, USED_WORK, feed_zero, holds, work_zero};
+use crate::memory::{Feed, NO_FEED, State, USED_WORK, Work, feed_zero, holds, work_zero};
 use crate::print::{end_line, load_answer, piece_answer};
 use linker::{FEED_CELLS, WORK_CELLS, lnk100_close, lnk100_feed, lnk100_load, lnk100_open};
 use rules::answer::{FeedAnswer, LoadAnswer};
 use std::io::Print;
-use test_script::say;
+use test_script::{front, say};
 
 // LOAD. The work memory is its own.
 pub fn load(state: &mut State, file: &[u8]) -> LoadAnswer {
@@ -32,12 +32,17 @@ struct Cut {
 }
 
 fn feed_piece(feed: &mut Feed, piece: &[u8]) -> FeedAnswer {
-    lnk100_feed(&mut feed[..FEED_CELLS], piece)
+    lnk100_feed(front(feed, FEED_CELLS), piece)
+}
+
+// An array that is lent as a slice has its length, also where it is a copy.
+fn close(feed: &mut Feed, state: &mut State, work: &mut Work) -> LoadAnswer {
+    lnk100_close(front(feed, FEED_CELLS), state, front(work, WORK_CELLS))
 }
 
 // An open load of which nothing has been fed. Is it such a one?
 fn open(feed: &mut Feed) -> bool {
-    let a = lnk100_open(&mut feed[..FEED_CELLS]);
+    let a = lnk100_open(front(feed, FEED_CELLS));
     a.number == 0 && holds(feed, b"")
 }
 
@@ -57,8 +62,8 @@ pub fn feed_file(rt: &impl Print, file: &[u8], state: &mut State) {
     loaded.cut_everywhere(rt);
     let n = file.len();
     // Single bytes; and the same with an empty piece in front of each and behind the last.
-    loaded.feed_pieces(rt, n, |k| (k, k + 1));
-    loaded.feed_pieces(rt, 2 * n + 1, |k| (k / 2, (k + 1) / 2));
+    loaded.feed_pieces(rt, n, |k: usize| (k, k.saturating_add(1)));
+    loaded.feed_pieces(rt, 2 * n + 1, |k: usize| (k / 2, k.saturating_add(1) / 2));
 }
 
 impl<'a> Loaded<'a> {
@@ -66,7 +71,7 @@ impl<'a> Loaded<'a> {
     fn closes_so(&self, feed: &mut Feed) -> bool {
         let mut state = *self.from;
         let mut work = USED_WORK;
-        let a = lnk100_close(&mut feed[..FEED_CELLS], &mut state, &mut work[..WORK_CELLS]);
+        let a = close(feed, &mut state, &mut work);
         a == self.answer && state == *self.state && work_zero(&work, WORK_CELLS) && feed_zero(feed)
     }
 
@@ -113,7 +118,7 @@ impl<'a> Loaded<'a> {
         requires { F.IsAlwaysCallable piece }
     {
         let mut feed = NO_FEED;
-        lnk100_open(&mut feed[..FEED_CELLS]);
+        lnk100_open(front(&mut feed, FEED_CELLS));
         let mut held: u64 = 0;
         for k in 0..pieces {
             let (from, to) = piece(k);

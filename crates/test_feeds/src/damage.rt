@@ -54,8 +54,8 @@ fn lend(rt: &impl Print, size: usize, cell: u64) {
 // 11 bytes, of which three stand in cell 2.
 fn eleven() -> Feed {
     let mut feed = NO_FEED;
-    lnk100_open(&mut feed[..FEED_CELLS]);
-    lnk100_feed(&mut feed[..FEED_CELLS], b"3 ***TITLE\n");
+    lnk100_open(front(&mut feed, FEED_CELLS));
+    lnk100_feed(front(&mut feed, FEED_CELLS), b"3 ***TITLE\n");
     feed
 }
 
@@ -141,10 +141,10 @@ fn one_byte(rt: &impl Print) {
 
 // Do all four calls answer 2? The close is lent no work memory, which it would clear.
 fn all_refuse(feed: &mut Feed, state: &mut State, work: &mut Work) -> bool {
-    let cells = &mut feed[..FEED_CELLS];
+    let cells = front(feed, FEED_CELLS);
     lnk100_open(cells).number == 2
         && lnk100_feed(cells, b"A").number == 2
-        && lnk100_close(cells, state, &mut work[..0]).number == 2
+        && lnk100_close(cells, state, front(work, 0)).number == 2
         && lnk100_drop(cells).number == 2
 }
 
