@@ -3,6 +3,7 @@
 // gone.
 #![tactic(auto)]
 
+pub mod fields;
 pub mod fresh;
 pub mod high;
 pub mod images;
