@@ -11,10 +11,10 @@
 # watched for the module (scripts/watched-kit.sh). memset and memcpy count an instruction a byte (`rep stosb`).
 set -eu
 cd "$(dirname "$0")/.."
-KEPT='cells::(clear|copy)|soundness::memory::refusal|soundness::cells::(names_differ|symbols_sound|words_sound|zero_between)
+KEPT='soundness::memory::check|feed::memory::check|soundness::cells::(names_differ|symbols_sound|words_sound|zero_between)
 |reading::read_lines|runs::(read_records|usual_line)|reading::fill::add_part|text::lines::next_line|line::(line_answer|fields_say|shape_line|test_bytes)|line::fitting::fit
 |line::fields::(read_field|field_at|name_at|bounded_at)|line::records::(code_line|plain_line|linked_line)|line::named::(name_alone|entry_line)|line::headers::(block_line|header_line)|steps::lines::step_of
-|line_reader::\w+|usual::(usual_word|plain_word)|walking::walk|index::(repeats|add_module|seek)|search::rounds::\w+|search::candidates::mark_undefined|search::modules::is_needed
+|line_reader::\w+|usual::(usual_word|plain_word)|walking::walk|index::(make|add_module|seek)|search::rounds::\w+|search::candidates::mark_undefined|search::modules::is_needed
 |search::visits::visit_module|order::(seek|insert|make)|state::words::high|placing::(place|place_row)|placing::tests::(survey|bad_arguments|out_of_range)|placing::names::duplicates
 |placing::symbols::(enter|mention_all)|placing::words::(lay|link)|image::(image_length|write_image|Output::put_words)|loading::(walk_file|load_file)'
 
