@@ -116,17 +116,17 @@ module _ (l : Library) where
               ∙ v.is;
         }
 
-    pub swept_taken : i < n → i < length flags → get_or flags i false ≡ false → {t : Refusal} {after : List ℕ} →
-        Taken (module_in parts rows (first + i)) old cells t after → Swept s (i + 1) (k + 1) (from (i + 1)) (set flags i true) t after
+    pub swept_taken : i < n → i < length flags → {t : Refusal} {after : List ℕ} →
+        Taken (module_in parts rows (first + i)) (get_or flags i false) old cells t after → Swept s (i + 1) (k + 1) (from (i + 1)) (set flags i true) t after
     unfolding sweep
-    swept_taken b h e q =
+    swept_taken b h q =
         let m = module_in parts rows (first + i) in
         let d = q.does v.here v.agrees in
         record {
           here = place v.here m;
           agrees = d.1;
           is =
-              ap (sweep takes place (i + 1) (from (i + 1))) (sym (visit_taken m i k flags v.here h e d.0))
+              ap (sweep takes place (i + 1) (from (i + 1))) (sym (visit_taken m i k flags v.here h q.fresh d.0))
               ∙ ap (λ ms. sweep takes place i ms (sweep_of (set_of flags) k v.here)) (sym (modules_next parts rows first n i b))
               ∙ v.is;
         }

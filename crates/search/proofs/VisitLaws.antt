@@ -57,9 +57,13 @@ module _ (m : Module) {old : Refusal} {before : List ℕ} where
       go true e = u (eqb-true old.number 0 e)
       go false e = refl
 
-  pub visit_left : Good before → (old.number ≡ 0 → is_needed (decode before) m ≡ false) → LeftOut m old before before
-  visit_left g u = record { good = g; does = λ w a. (not_taken u w a, a) }
+  pub visit_left : (flag : Bool) → Good before → (old.number ≡ 0 → is_needed (decode before) m ≡ false) → LeftOut m flag old before before
+  visit_left flag g u = record { good = g; does = λ w a. (settled_left flag (not_taken u w a), a) }
 
-  pub visit_placed : old.number ≡ 0 → is_needed (decode before) m ≡ true → {t : Refusal} {after : List ℕ} → PlacedRow m old before t after →
-      Taken m old before t after
-  visit_placed z n p = record { good = p.good; does = λ w a. (takes_is a m ∙ rw (eq-eqb old.number 0 z, n), p.does w a) }
+  -- so is one that is taken already
+  pub visit_again : {flag : Bool} → Good before → flag ≡ true → LeftOut m flag old before before
+  visit_again g f = record { good = g; does = λ w a. (settled_flag (takes w m) f, a) }
+
+  pub visit_placed : {flag : Bool} → flag ≡ false → old.number ≡ 0 → is_needed (decode before) m ≡ true → {t : Refusal} {after : List ℕ} →
+      PlacedRow m old before t after → Taken m flag old before t after
+  visit_placed f z n p = record { good = p.good; fresh = f; does = λ w a. (takes_is a m ∙ rw (eq-eqb old.number 0 z, n), p.does w a) }

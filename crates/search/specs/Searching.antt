@@ -1,5 +1,5 @@
 -- How the search of a section says what it did: the walk of the definitions, beside a refusal and state memory.
-use Rattle.std.specs.Prelude.{ℕ, suc, ◌+◌, ◌≤◌, Bool, true, false, cond, List, Option, None, Some, ◌≡◌, length, get_or, eqb}
+use Rattle.std.specs.Prelude.{ℕ, suc, ◌+◌, ◌≤◌, Bool, true, false, cond, not, ◌||◌, List, Option, None, Some, ◌≡◌, length, get_or, eqb}
 use Rattle.rules.specs.Reading.{Module}
 use Rattle.rules.specs.Search.{ModuleSet, Sweep, sweep_of, Found, found, sweep, round, rounds}
 use Rattle.rules.specs.Load.{Walk, takes, place, searched}
@@ -11,20 +11,21 @@ use Rattle.search.specs.declared.rounds.Searched.{Searched}
 
 -- ---- a module in turn
 
--- a walk does not take the module
-pub record LeftOut (m : Module) (refusal : Refusal) (before after : List ℕ) : Type 0 where
+-- the module is taken already, or a walk does not take it
+pub record LeftOut (m : Module) (taken : Bool) (refusal : Refusal) (before after : List ℕ) : Type 0 where
   pub good : Good after
-  pub does : (w : Walk) → Agrees w refusal before → (takes w m ≡ false) × Agrees w refusal after
+  pub does : (w : Walk) → Agrees w refusal before → ((taken || not (takes w m)) ≡ true) × Agrees w refusal after
 
--- a walk takes it, and goes on by t
-pub record Taken (m : Module) (refusal : Refusal) (before : List ℕ) (t : Refusal) (after : List ℕ) : Type 0 where
+-- it was not taken yet, and a walk takes it and goes on by t
+pub record Taken (m : Module) (taken : Bool) (refusal : Refusal) (before : List ℕ) (t : Refusal) (after : List ℕ) : Type 0 where
   pub good : Good after
+  pub fresh : taken ≡ false
   pub does : (w : Walk) → Agrees w refusal before → (takes w m ≡ true) × Agrees (place w m) t after
 
--- a visit to a module that is not taken yet
-abbrev pub Visited : Module → Refusal → List ℕ → Option Refusal → List ℕ → Type 0
-Visited m refusal before None after = LeftOut m refusal before after
-Visited m refusal before (Some t) after = Taken m refusal before t after
+-- a visit to a module, by whether it is taken already
+abbrev pub Visited : Module → Bool → Refusal → List ℕ → Option Refusal → List ℕ → Type 0
+Visited m taken refusal before None after = LeftOut m taken refusal before after
+Visited m taken refusal before (Some t) after = Taken m taken refusal before t after
 
 -- the refusal behind a visit
 abbrev pub refusal_after : Refusal → Option Refusal → Refusal

@@ -38,10 +38,18 @@ fn one_round(
 {
     let mut round = Round { took: 0, refusal };
     for i in 0..library.section.count {
-        if !candidates[i] || taken[i] {
+        if !candidates[i] {
             continue;
         }
-        if let Some(after) = visit_module(library, i, round.refusal, candidates, order, state) {
+        if let Some(after) = visit_module(
+            library,
+            i,
+            taken[i],
+            round.refusal,
+            candidates,
+            order,
+            state,
+        ) {
             taken[i] = true;
             round = Round {
                 took: round.took + 1,

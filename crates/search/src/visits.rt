@@ -14,11 +14,12 @@ use placing::place_row;
 use rules::answer::{DONE, Refusal};
 use state::header::symbol_count;
 
-// Takes the i-th module of the section, which was not taken yet, if the walk goes on and one of its entries is undefined. The answer
-// is then the refusal behind it.
+// Takes the i-th module of the section, if it is not taken yet, the walk goes on and one of its entries is undefined. The answer is
+// then the refusal behind it.
 pub fn visit_module(
     library: Library,
     i: usize,
+    taken: bool,
     refusal: Refusal,
     candidates: &mut Flags,
     order: &mut Order,
@@ -27,10 +28,13 @@ pub fn visit_module(
     requires library_sound { LibrarySound library × (i < library.section.count) }
     requires candidates { Candidates library refusal state.old candidates.old }
     requires good { Good state.old × Ordered state.old order.old }
-    ensures visited { Visited (module_of library.entry i) refusal state.old result state.new }
+    ensures visited { Visited (module_of library.entry i) taken refusal state.old result state.new }
     ensures candidates { Candidates library.entry (refusal_after refusal result) state.new candidates.new }
     ensures ordered { Ordered state.new order.new }
 {
+    if taken {
+        return None;
+    }
     if refusal.number != DONE {
         return None;
     }

@@ -1,9 +1,9 @@
 use Rattle.std.proofs.Common.{arith, ap, length, length-set, true}
 use Rattle.search.specs.Libraries.{module_of}
-use Rattle.search.proofs.VisitLaws.{not_taken, settled_flag, settled_left}
+use Rattle.search.proofs.VisitLaws.{not_taken, settled_left}
 use Rattle.search.proofs.SweepLaws.{swept_start, swept_idle, swept_taken, swept_done}
 use Rattle.search.proofs.rounds.one_round.Goals as goal
-use Rattle.search.proofs.rounds.one_round.Goals.{then-not-candidates-i-via-then-not-candidates-i, then-not-candidates-i-via-else-not-candidates-i+then-taken-i, in-Some, in_default}
+use Rattle.search.proofs.rounds.one_round.Goals.{in-Some, in_default}
 
 pub loop-i-init : goal.loop-i-init
 loop-i-init c = (c.requires.good, omega arith, (λ w g. swept_start c.args.library c.args.taken.now w g), c.requires.candidates)
@@ -15,10 +15,7 @@ loop-i-preserved-then-not-candidates-i c =
     let b = c.loop-i-test.true in (
       i.0,
       omega (arith, i.1),
-      (λ w g. swept_idle l (i.2 w g) b (λ v a. elim c.then-not-candidates-i.branch [
-        | then-not-candidates-i-via-then-not-candidates-i d ↦ settled_left _ (not_taken (module_of l c.loop-i.i) (λ z. i.3.unneeded z c.loop-i.i b d.if-not-candidates-i.true) v a)
-        | then-not-candidates-i-via-else-not-candidates-i+then-taken-i d ↦ settled_flag _ d.if-taken-i.true
-      ]) (λ v a. a)),
+      (λ w g. swept_idle l (i.2 w g) b (λ v a. settled_left _ (not_taken (module_of l c.loop-i.i) (λ z. i.3.unneeded z c.loop-i.i b c.if-not-candidates-i.true) v a)) (λ v a. a)),
       i.3,
     )
 
@@ -37,8 +34,8 @@ loop-i-preserved c =
     let i = c.loop-i.invariant in
     let b = c.loop-i-test.true in
     elim c.match-visit_module.branch [
-      | in-Some d ↦ let v = d.in-Some.ensures in rw (d.taken-is, d.round-is) ((v.visited.good, v.ordered), omega (arith, i.1), (λ w g. swept_taken l (i.2 w g) b (omega (arith, b, c.requires.library_sound.short, c.match-visit_module.array_long, ap length d.taken-is, length-set c.loop-i.taken c.loop-i.i true)) c.if-taken-i.false v.visited), v.candidates)
-      | in_default d ↦ let v = d.in_default.ensures in rw (d.taken-is, d.round-is) ((v.visited.good, v.ordered), omega (arith, i.1), (λ w g. swept_idle l (i.2 w g) b (λ u a. settled_left _ (v.visited.does u a).0) (λ u a. (v.visited.does u a).1)), v.candidates)
+      | in-Some d ↦ let v = d.in-Some.ensures in rw (d.taken-is, d.round-is) ((v.visited.good, v.ordered), omega (arith, i.1), (λ w g. swept_taken l (i.2 w g) b (omega (arith, b, c.requires.library_sound.short, c.match-visit_module.array_long, ap length d.taken-is, length-set c.loop-i.taken c.loop-i.i true)) v.visited), v.candidates)
+      | in_default d ↦ let v = d.in_default.ensures in rw (d.taken-is, d.round-is) ((v.visited.good, v.ordered), omega (arith, i.1), (λ w g. swept_idle l (i.2 w g) b (λ u a. (v.visited.does u a).0) (λ u a. (v.visited.does u a).1)), v.candidates)
     ]
 
 pub returns-clause-rounded : goal.returns-clause-rounded
