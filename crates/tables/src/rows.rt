@@ -1,6 +1,6 @@
 // Rows: what each says of its module or section.
 ghost use Rattle.std.specs.Prelude.{◌≤◌, ◌<◌, ◌^◌, ◌≡◌};
-ghost use Rattle.tables.specs.Tables.{most_cells, row_head, row_body, kind_number, kind_told, kind_in, line_in, start_in, end_in, cells_in, RowsOf};
+ghost use Rattle.tables.specs.Tables.{most_cells, row_head, row_body, kind_told, kind_in, line_in, start_in, end_in, cells_in, RowsOf};
 
 use crate::cells::{body_at, head_at};
 
@@ -19,10 +19,11 @@ const KINDS: u64 = 4;
 // The second cell has the range's start and, above it, its end.
 const STARTS: u64 = 65536;
 
-pub fn row_head(kind: RowKind, line: u32) -> u64
-    ensures { result ≡ row_head (kind_number kind) line }
+// A row without a kind has number 0.
+pub fn row_head(kind: Option<RowKind>, line: u32) -> u64
+    ensures { result ≡ row_head (kind_told kind) line }
 {
-    kind as u64 + KINDS * (line as u64)
+    kind.map_or(0, |k| k as u64) + KINDS * (line as u64)
 }
 
 pub fn row_body(start: usize, end: usize) -> u64
