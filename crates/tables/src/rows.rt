@@ -42,12 +42,12 @@ pub struct Section {
 
 // The two tables of a file, as the reading has filled them.
 #[derive(Clone, Copy)]
-pub struct Tables<'a> {
-    pub parts: &'a [u64],
-    pub rows: &'a [u64],
+pub struct Tables<'p, 'r> {
+    pub parts: &'p [u64],
+    pub rows: &'r [u64],
 }
 
-impl<'a> Tables<'a> {
+impl<'p, 'r> Tables<'p, 'r> {
     // The kind of row i. No row that the reading writes has none.
     pub fn kind(self, i: usize) -> Option<RowKind>
         requires { i ≤ most_cells }
@@ -96,8 +96,8 @@ impl<'a> Tables<'a> {
         }
     }
 
-    // The cells of the module of row i. A range that passes the table's end stops there.
-    pub fn module_cells(self, i: usize) -> &'a [u64]
+    // The cells of the module of row i, lent by the parts alone. A range that passes the table's end stops there.
+    pub fn module_cells(self, i: usize) -> &'p [u64]
         requires { i ≤ most_cells }
         ensures { result.now ≡ cells_in self.entry.parts.now (start_in self.entry.rows.now i) (end_in self.entry.rows.now i) }
     {
