@@ -3,7 +3,6 @@
 // gone.
 #![tactic(auto)]
 
-pub mod fields;
 pub mod fresh;
 pub mod high;
 pub mod images;

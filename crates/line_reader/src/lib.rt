@@ -2,6 +2,8 @@
 // cursor over a plain slice.
 #![tactic(auto)]
 
+pub mod fields;
+
 ghost use Rattle.std.specs.Prelude.{◌≡◌, ◌<◌, length};
 ghost use Rattle.text.specs.LineEnds.{NextLine};
 

@@ -52,14 +52,19 @@ pub fn close_module(rows: &mut [u64], filled: Filled, member: bool, line: u32) -
 {
     let body = row_body(filled.object, filled.parts);
     if member {
-        put(rows, filled.rows, row_head(RowKind::Member, line), body);
+        put(
+            rows,
+            filled.rows,
+            row_head(Some(RowKind::Member), line),
+            body,
+        );
         return Filled {
             rows: filled.rows + 1,
             object: filled.parts,
             ..filled
         };
     }
-    put(rows, filled.rows, row_head(RowKind::Free, line), body);
+    put(rows, filled.rows, row_head(Some(RowKind::Free), line), body);
     Filled {
         rows: filled.rows + 1,
         object: filled.parts,
@@ -74,7 +79,12 @@ pub fn close_section(rows: &mut [u64], filled: Filled, line: u32) -> Filled
     ensures { Fills rows_in (add_section line) filled rows.old result rows.new }
 {
     let body = row_body(filled.section, filled.rows);
-    put(rows, filled.rows, row_head(RowKind::Section, line), body);
+    put(
+        rows,
+        filled.rows,
+        row_head(Some(RowKind::Section), line),
+        body,
+    );
     Filled {
         rows: filled.rows + 1,
         object: filled.parts,

@@ -6,6 +6,7 @@ use framing::{Frame, usual_frame};
 use line::line_answer;
 use line_reader::line_from;
 use rules::line::Expected;
+use text::lines::line_part;
 
 // A header or a title in its usual form, where nothing of what the lines say is kept.
 fn frame_from(file: &[u8], at: usize, expected: Expected, keep: bool) -> Option<Frame>
@@ -28,7 +29,7 @@ pub fn said_at(file: &[u8], at: usize, expected: Expected, keep: bool) -> Frame
     }
     let span = line_from(file, at);
     Frame {
-        answer: line_answer(&file[at..span.stop], span.front, expected),
+        answer: line_answer(line_part(file, at, span.stop), span.front, expected),
         next: span.next,
     }
 }

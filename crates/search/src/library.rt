@@ -5,7 +5,7 @@ use tables::rows::{Section, Tables};
 // Its modules in the tables, and the index of their entries.
 #[derive(Clone, Copy)]
 pub struct Library<'a> {
-    pub tables: Tables<'a>,
+    pub tables: Tables<'a, 'a>,
     pub section: Section,
     pub index: &'a Index,
 }

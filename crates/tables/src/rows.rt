@@ -1,6 +1,6 @@
 // Rows: what each says of its module or section.
 ghost use Rattle.std.specs.Prelude.{◌≤◌, ◌<◌, ◌^◌, ◌≡◌};
-ghost use Rattle.tables.specs.Tables.{most_cells, row_head, row_body, kind_number, kind_told, kind_in, line_in, start_in, end_in, cells_in, RowsOf};
+ghost use Rattle.tables.specs.Tables.{most_cells, row_head, row_body, kind_told, kind_in, line_in, start_in, end_in, cells_in, RowsOf};
 
 use crate::cells::{body_at, head_at};
 
@@ -19,10 +19,11 @@ const KINDS: u64 = 4;
 // The second cell has the range's start and, above it, its end.
 const STARTS: u64 = 65536;
 
-pub fn row_head(kind: RowKind, line: u32) -> u64
-    ensures { result ≡ row_head (kind_number kind) line }
+// A row without a kind has number 0.
+pub fn row_head(kind: Option<RowKind>, line: u32) -> u64
+    ensures { result ≡ row_head (kind_told kind) line }
 {
-    kind as u64 + KINDS * (line as u64)
+    kind.map_or(0, |k| k as u64) + KINDS * (line as u64)
 }
 
 pub fn row_body(start: usize, end: usize) -> u64
@@ -41,12 +42,12 @@ pub struct Section {
 
 // The two tables of a file, as the reading has filled them.
 #[derive(Clone, Copy)]
-pub struct Tables<'a> {
-    pub parts: &'a [u64],
-    pub rows: &'a [u64],
+pub struct Tables<'p, 'r> {
+    pub parts: &'p [u64],
+    pub rows: &'r [u64],
 }
 
-impl<'a> Tables<'a> {
+impl<'p, 'r> Tables<'p, 'r> {
     // The kind of row i. No row that the reading writes has none.
     pub fn kind(self, i: usize) -> Option<RowKind>
         requires { i ≤ most_cells }
@@ -95,8 +96,8 @@ impl<'a> Tables<'a> {
         }
     }
 
-    // The cells of the module of row i. A range that passes the table's end stops there.
-    pub fn module_cells(self, i: usize) -> &'a [u64]
+    // The cells of the module of row i, lent by the parts alone. A range that passes the table's end stops there.
+    pub fn module_cells(self, i: usize) -> &'p [u64]
         requires { i ≤ most_cells }
         ensures { result.now ≡ cells_in self.entry.parts.now (start_in self.entry.rows.now i) (end_in self.entry.rows.now i) }
     {

@@ -10,6 +10,8 @@ use mathlib.Core.Path.{◌≡◌, refl, sym, ap, ap₂, ◌∙◌}
 use lib.ListN.{length, take, drop, get_or, length-take, length-drop}
 use lib.Seq.{drop-cons, take-length, take-take, drop-drop, take-nil, get_or-take, get_or-drop}
 use lib.Dec.{leb}
+use Rattle.std.proofs.lemmas.Bool.{leb-true, leb-false}
+use Rattle.std.proofs.lemmas.List.{take_all}
 use borrow.Author.Tests.{le-leb, lt-leb}
 use Rattle.rules.specs.Text.{between, all}
 use Rattle.rules.proofs.TestLaws.{all_first, all_rest, all_at}
@@ -63,6 +65,26 @@ unfolding part
 drop_part i e n l =
     let k : e - i - n ≡ e - (i + n) = omega arith in
     drop_take n (e - i) (drop i l) ∙ ap₂ take k (drop-drop n i l)
+
+take_min : (n m : ℕ) (l : List ℕ) → take n (take m l) ≡ take (min n m) l
+take_min n m l = go (leb n m) refl
+  where
+    go : (t : Bool) → leb n m ≡ t → take n (take m l) ≡ take (min n m) l
+    go true e =
+        let h = leb-true n m e in
+        let k : n ≡ min n m = omega arith in
+        take-take n m l h ∙ ap (λ (j : ℕ). take j l) k
+    go false e =
+        let h = leb-false n m e in
+        let k : m ≡ min n m = omega arith in
+        take_all n (take m l) (omega (arith, length-take m l)) ∙ ap (λ (j : ℕ). take j l) k
+
+-- a part of a part
+pub part_part : (f t i e : ℕ) (l : List ℕ) → part f t (part i e l) ≡ part (i + f) (min (i + t) e) l
+unfolding part
+part_part f t i e l =
+    let k : min (t - f) (e - (i + f)) ≡ min (i + t) e - (i + f) = omega arith in
+    ap (take (t - f)) (drop_part i e f l) ∙ take_min (t - f) (e - (i + f)) (drop (i + f) l) ∙ ap (λ (j : ℕ). take j (drop (i + f) l)) k
 
 -- ---- scans
 

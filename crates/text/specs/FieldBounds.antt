@@ -32,3 +32,10 @@ pub record NextField (at stop : ℕ) (file r : Bor (List ℕ)) : Type 0 where
       ≡ first
       (record { column = c + (field_start at stop file.now - at); text = r.now })
       (fields_from (c + (field_stop at stop file.now - at)) (part (field_stop at stop file.now) stop file.now))
+
+-- r is a part of the file itself: it has the bytes between two of its positions, and lies where they lie
+pub record PartOf (file r : Bor (List ℕ)) : Type 0 where
+  pub from : ℕ
+  pub to : ℕ
+  pub bytes : r.now ≡ part from to file.now
+  pub position : r.ref_ptr ≡ onward from file.ref_ptr

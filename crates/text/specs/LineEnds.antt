@@ -1,8 +1,10 @@
 -- Where the line that starts at a position of the file stops, and where the next one starts.
 use Rattle.std.specs.Prelude.{ℕ, ◌+◌, ◌-◌, ◌≤◌, ◌<◌, min, Bool, cond, ◌&&◌, List, ◌∷◌, ◌≡◌, length, drop, get_or, eqb, ltb}
+use Rattle.std.specs.Borrow.{Bor}
 use Rattle.rules.specs.Limits.{longest_line}
 use Rattle.rules.specs.Text.{LF, CR, between, lines_of, legal_front}
 use Rattle.text.specs.Scan.{part, past, is_not}
+use Rattle.text.specs.FieldBounds.{onward}
 use Rattle.text.specs.declared.lines.LineSpan.{LineSpan}
 
 -- where the next line starts: behind the first LF, or at the file's end
@@ -34,3 +36,8 @@ legal_end i e file = past is_legal i e file
 -- the legal bytes at the front of the line from `at` to stop, at most 80, where the next illegal byte is at `illegal`
 abbrev pub front_of : ℕ → ℕ → ℕ → ℕ
 front_of at illegal stop = min longest_line (min illegal stop - at)
+
+-- r is the line from `at` to stop: it has those bytes of the file, at that position
+pub record LinePart (at stop : ℕ) (file r : Bor (List ℕ)) : Type 0 where
+  pub bytes : r.now ≡ part at stop file.now
+  pub position : r.ref_ptr ≡ onward at file.ref_ptr

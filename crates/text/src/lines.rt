@@ -1,7 +1,7 @@
 // The lines of a file.
 ghost use Rattle.std.specs.Prelude.{◌≡◌, ◌<◌, ◌≤◌, length};
-ghost use Rattle.text.specs.Scan.{Found};
-ghost use Rattle.text.specs.LineEnds.{legal_end, line_stop, NextLine};
+ghost use Rattle.text.specs.Scan.{InFile, Found};
+ghost use Rattle.text.specs.LineEnds.{legal_end, line_stop, NextLine, LinePart};
 
 use crate::scan::{CR, LF, SPACE, TILDE, find_byte, past};
 use rules::limits::LONGEST_LINE;
@@ -47,4 +47,13 @@ pub fn next_line(file: &[u8], at: usize) -> LineSpan
         next: file.len().min(lf + 1),
         front: LONGEST_LINE.min(illegal.min(stop) - at),
     }
+}
+
+// The line from `at` to `stop`, as that part of the file.
+#[tactic(auto, unfolding(crate::specs::Scan::part))]
+pub fn line_part<'a>(file: &'a [u8], at: usize, stop: usize) -> &'a [u8]
+    requires { InFile at stop file.now }
+    ensures { LinePart at stop file.entry result }
+{
+    &file[at..stop]
 }
