@@ -10,7 +10,7 @@ ghost use Rattle.rules.specs.History.{work_fits};
 ghost use Rattle.rules.proofs.TestLaws.{Every};
 ghost use Rattle.rules.proofs.ReadingLaws.{ItemSound};
 ghost use Rattle.tables.specs.Tables.{most_cells, items_in};
-ghost use Rattle.state.specs.Layout.{lent, decode};
+ghost use Rattle.state.specs.Layout.{size, lent, decode};
 ghost use Rattle.state.specs.Good.{Good};
 ghost use Rattle.state.specs.Promise.{Called, LoadCalled};
 
@@ -28,6 +28,15 @@ use walking::walk;
 // The fixed length of work memory, which holds the parts of a file's modules.
 const WORK_CELLS: usize = PART_ROOM;
 
+// All cells of the state into an array. They are cut to the array's length, which the compiler knows, and so it sees that what the
+// array held before is never read.
+fn copy(state: &[u64], cells: &mut [u64; SIZE])
+    requires { length state.now ≡ size }
+    ensures { cells.new ≡ state.now }
+{
+    cells.copy_from_slice(&state[..SIZE]);
+}
+
 // The walk over n rows; the answer is its rounds. A refusal leaves the state as it was, but for the broken mark.
 fn walk_file(tables: Tables, n: usize, state: &mut [u64]) -> Result<usize, LoadFault>
     requires n_le_most_cells { (n ≤ most_cells) × (length tables.parts.now ≤ most_cells) }
@@ -36,7 +45,7 @@ fn walk_file(tables: Tables, n: usize, state: &mut [u64]) -> Result<usize, LoadF
     ensures { Called (load_outcome (walked (decode state.old) (walk_from (decode state.old) (items_in tables.entry.parts.now tables.entry.rows.now n)))) state.old (load_told result) state.new }
 {
     let mut before = [0u64; SIZE];
-    before.copy_from_slice(state);
+    copy(state, &mut before);
     let far = walk(tables, n, state);
     if far.refusal.number == DONE {
         return Ok(far.rounds);

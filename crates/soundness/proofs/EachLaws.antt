@@ -1,14 +1,16 @@
 -- A test at each cell of a region, or at each two cells of two regions: as the code makes it, and by positions.
 use Rattle.std.specs.Prelude.{slice_range, ◌==◌}
 use Rattle.std.specs.List.{list_all, zip}
-use Rattle.std.proofs.lemmas.List.{length-take, length-drop, get_or-take, get_or-drop}
+use Rattle.std.proofs.lemmas.List.{length-take, length-drop, get_or-take, get_or-drop, drop_all, drop-take}
 use Rattle.std.proofs.lemmas.Slice.Zip.{get_or-zip, length-zip}
-use Prim.Native.Nat.{ℕ, zero, suc, ◌+◌, ◌-◌, ◌≤◌, ◌<◌}
-use mathlib.Core.Bool.{Bool, not, ◌&&◌}
+use Prim.Native.Nat.{ℕ, zero, suc, ◌+◌, ◌-◌, ◌≤◌, ◌<◌, min}
+use mathlib.Core.Bool.{Bool, true, false, not, ◌&&◌}
 use mathlib.Core.List.{List, [], ◌∷◌}
-use mathlib.Core.Path.{◌≡◌, refl, ap, ap₂, ◌∙◌}
+use mathlib.Core.Path.{◌≡◌, refl, sym, ap, ap₂, ◌∙◌}
 use native.Mathlib.Omega.{arith}
+use borrow.Author.Tests.{ltb-true, ltb-false}
 use lib.ListN.{length, get_or, take, drop}
+use lib.Dec.{ltb}
 use Rattle.rules.specs.Text.{all, is_packed}
 use Rattle.state.specs.Layout.{numbers, range}
 use Rattle.state.proofs.ListLaws.{cell_in}
@@ -40,6 +42,23 @@ module _ (cells : List ℕ) where
       each_in (λ v. v == 0) (zero_at cells) 0 (drop a (take b cells)) a b
       (omega (arith, length-drop a (take b cells), length-take b cells))
       (λ j l. ap (λ v. v == 0) (get_or-drop a (take b cells) j 0 ∙ get_or-take b cells (a + j) 0 (omega arith)))
+
+  -- cut from the front first
+  pub cut_each : (a b k : ℕ) → k ≡ min a b → list_all (λ v. v == 0) (slice_range cells k b) ≡ list_all (λ v. v == 0) (drop a (take b cells))
+  cut_each a b k e = go (ltb b a) refl
+    where
+      go : (t : Bool) → ltb b a ≡ t → list_all (λ v. v == 0) (slice_range cells k b) ≡ list_all (λ v. v == 0) (drop a (take b cells))
+      go true q =
+          let h = ltb-true b a q in
+          let none : b - k ≡ 0 = omega arith in
+          rw (none, drop_all a (take b cells) (omega (arith, length-take b cells))) refl
+      go false q =
+          let h = ltb-false b a q in
+          let start : k ≡ a = omega arith in
+          let end : a + (b - a) ≡ b = omega arith in
+          ap (λ (i : ℕ). list_all (λ v. v == 0) (slice_range cells i b)) start
+          ∙ ap (list_all (λ v. v == 0)) (sym (drop-take a (b - a) cells))
+          ∙ ap (λ (j : ℕ). list_all (λ v. v == 0) (drop a (take j cells))) end
 
   pub unlike_each : (x i n : ℕ) → 4 + n ≤ length cells → list_all (λ v. not (v == x)) (drop i (slice_range cells 4 (4 + n))) ≡ unlike cells x i n
   unfolding unlike

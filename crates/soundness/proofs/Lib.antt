@@ -4,4 +4,3 @@ pub mod CheckLaws
 pub mod SoundLaws
 pub mod RefusalLaws
 pub mod EachLaws
-pub mod UnionLaws

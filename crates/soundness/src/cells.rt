@@ -24,25 +24,45 @@ pub fn header_sound(state: &[u64]) -> bool
         && state[SPARE] == 0
 }
 
-// The union of the cells from one on. No test ends it early, so that the machine takes several cells at a time.
-fn union_from(cells: &[u64], from: usize) -> u64
-    ensures { result ≡ fold bit_or 0 (drop from cells.now) }
+// The union of eight cells.
+fn union_of(cells: &[u64; 8]) -> u64
+    ensures { result ≡ fold bit_or 0 cells.now }
 {
-    cells.iter().skip(from).fold(0, |all, cell| all | *cell)
+    cells.iter().fold(0, |all, cell| all | *cell)
 }
 
-// Are the cells from one on zero? With `all` a call on a full state takes up to twice as long.
-fn zero_from(cells: &[u64], from: usize) -> bool
-    ensures { result ≡ list_all (λ cell. cell == 0) (drop from cells.now) }
+// Are eight cells zero? One test serves for all of them.
+fn eight_zero(cells: &[u64; 8]) -> bool
+    ensures { result ≡ list_all (λ cell. cell == 0) cells.now }
 {
-    union_from(cells, from) == 0
+    union_of(cells) == 0
+}
+
+fn eights_zero(eights: &[[u64; 8]]) -> bool
+    ensures { result ≡ list_all (list_all (λ cell. cell == 0)) eights.now }
+{
+    eights.iter().all(|eight| eight_zero(eight))
+}
+
+fn each_zero(cells: &[u64]) -> bool
+    ensures { result ≡ list_all (λ cell. cell == 0) cells.now }
+{
+    cells.iter().all(|cell| *cell == 0)
+}
+
+// Eight cells a turn, up to the first eight that are not all zero; one by one those that are left.
+fn all_zero(cells: &[u64]) -> bool
+    ensures { result ≡ list_all (λ cell. cell == 0) cells.now }
+{
+    let (eights, rest) = cells.as_chunks::<8>();
+    eights_zero(eights) && each_zero(rest)
 }
 
 pub fn zero_between(state: &[u64], from: usize, to: usize) -> bool
     requires { to ≤ length state.now }
     ensures { result ≡ zero_between state.now from to }
 {
-    zero_from(&state[..to], from)
+    all_zero(&state[from.min(to)..to])
 }
 
 #[tactic(auto, unfolding(crate::specs::Checks::value_sound))]
@@ -115,12 +135,12 @@ pub fn names_differ(state: &[u64], n: usize) -> bool
 
 // Its text is read only where no word is placed.
 #[tactic(auto, unfolding(crate::specs::Checks::word_sound))]
-fn word_sound(text: u64, tag: u64, n: usize) -> bool
+fn word_sound(text: &u64, tag: u64, n: usize) -> bool
     requires { n ≤ most_symbols }
-    ensures { result ≡ word_sound n text tag }
+    ensures { result ≡ word_sound n text.now tag }
 {
     if tag == UNPLACED {
-        return text == 0;
+        return *text == 0;
     }
     tag <= n as u64 + PLAIN
 }
@@ -132,7 +152,7 @@ fn each_word_sound(texts: &[u64], tags: &[u64], n: usize) -> bool
     texts
         .iter()
         .zip(tags)
-        .all(|(text, tag)| word_sound(*text, *tag, n))
+        .all(|(text, tag)| word_sound(text, *tag, n))
 }
 
 pub fn words_sound(state: &[u64], n: usize) -> bool

@@ -1,6 +1,6 @@
 -- The highest address whose word passes a test, looked for from the top down: a symbol's highest reference, and HIGH.
-use Rattle.std.specs.Prelude.{Option, Some, None, unwrap_or, slice_range}
-use Rattle.std.proofs.lemmas.List.{length-take, length-drop}
+use Rattle.std.specs.Prelude.{Option, Some, None, unwrap_or}
+use Rattle.std.proofs.lemmas.List.{length-drop, get_or-drop, take_all}
 use Prim.Native.Nat.{ℕ, zero, suc, ◌+◌, ◌-◌, ◌≤◌, ◌<◌}
 use mathlib.Core.Bool.{Bool, true, false, cond}
 use mathlib.Core.List.{List, [], ◌∷◌, ◌++◌, map}
@@ -8,13 +8,17 @@ use mathlib.Core.Logic.{◌≢◌}
 use mathlib.Core.Path.{◌≡◌, refl, sym, ap, ◌∙◌}
 use native.Mathlib.Omega.{arith}
 use borrow.Author.Tests.{eq-eqb, ne_eqb, eqb-true, eqb-false}
-use lib.ListN.{length, get_or, drop}
+use lib.ListN.{length, get_or, take, drop}
 use lib.Dec.{eqb}
 use Rattle.rules.specs.State.{Word, unplaced, plain, refers, refers_to, highest_from, highest_where}
 use Rattle.state.specs.Layout.{numbers, range, word_of, word_in, words_below, decode}
 use Rattle.state.specs.Words.{LastOf}
 use Rattle.state.proofs.BoolLaws.{same_test}
-use Rattle.state.proofs.ListLaws.{map_last, range_last, length_map_range, cell_in}
+use Rattle.state.proofs.ListLaws.{map_last, range_last, length_map_range}
+
+-- the tags as the code cuts them off
+pub all_tags : (cells : List ℕ) → length cells ≡ 8708 → (n : ℕ) → 4096 ≤ n → take n (drop 4612 cells) ≡ drop 4612 cells
+all_tags cells long n h = take_all n (drop 4612 cells) (omega (arith, length-drop 4612 cells))
 
 -- ---- a test of a word
 
@@ -61,21 +65,24 @@ module _ (p : Word → Bool) where
   highest_none cells f = sym (sym (all_words cells 0 4096 refl) ∙ highest_down cells 0 4096 (λ k l b. f k b))
 
   -- in the words of the code: the last tag that passes a test
-  pub highest_found : (test : ℕ → Bool) → ((x k : ℕ) → p (word_of x k) ≡ test k) → (cells : List ℕ) → length cells ≡ 8708 → (r : Option ℕ) →
-      LastOf test (slice_range cells 4612 (length cells)) r → unwrap_or r 65535 ≡ highest_where p (decode cells).words
-  highest_found test same cells long r f = go r f
+  pub highest_found : (test : ℕ → Bool) → ((x k : ℕ) → p (word_of x k) ≡ test k) → (cells : List ℕ) → length cells ≡ 8708 → (tags : List ℕ) (r : Option ℕ) → LastOf test tags r → tags ≡ drop 4612 cells →
+      unwrap_or r 65535 ≡ highest_where p (decode cells).words
+  highest_found test same cells long tags r f e = go r f
     where
       -- the word at an address, by its tag
-      by_tag : (k : ℕ) (b : Bool) → k < length cells - 4612 → test (get_or (slice_range cells 4612 (length cells)) k 0) ≡ b → p (word_in cells k) ≡ b
-      by_tag k b h e = same _ _ ∙ ap test (sym (cell_in cells 4612 (length cells) k h)) ∙ e
+      by_tag : (k : ℕ) (b : Bool) → test (get_or tags k 0) ≡ b → p (word_in cells k) ≡ b
+      by_tag k b h =
+          same _ _
+          ∙ ap test (sym (ap (λ (l : List ℕ). get_or l k 0) e ∙ get_or-drop 4612 cells k 0))
+          ∙ h
 
-      tags_long : length (slice_range cells 4612 (length cells)) ≡ 4096
-      tags_long = omega (arith, length-take (length cells - 4612) (drop 4612 cells), length-drop 4612 cells)
+      tags_long : length tags ≡ 4096
+      tags_long = omega (arith, ap length e, length-drop 4612 cells)
 
-      go : (r : Option ℕ) → LastOf test (slice_range cells 4612 (length cells)) r → unwrap_or r 65535 ≡ highest_where p (decode cells).words
-      go None f = highest_none cells (λ k h. by_tag k false (omega arith) (f k (omega (arith, tags_long))))
+      go : (r : Option ℕ) → LastOf test tags r → unwrap_or r 65535 ≡ highest_where p (decode cells).words
+      go None f = highest_none cells (λ k h. by_tag k false (f k (omega (arith, tags_long))))
       go (Some i) f =
-          highest_at cells i (omega (arith, f.0, tags_long)) (by_tag i true (omega (arith, f.0, tags_long)) f.1) (λ k l h. by_tag k false (omega arith) (f.2 k l (omega (arith, tags_long))))
+          highest_at cells i (omega (arith, f.0, tags_long)) (by_tag i true f.1) (λ k l h. by_tag k false (f.2 k l (omega (arith, tags_long))))
 
 -- the tests, by the tag
 

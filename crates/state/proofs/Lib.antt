@@ -1,5 +1,7 @@
 pub mod BoolLaws
 pub mod ListLaws
+pub mod UnionLaws
+pub mod EightLaws
 pub mod RegionLaws
 pub mod LayoutLaws
 pub mod HeaderLaws

@@ -1,10 +1,12 @@
 // The program words. An address past the last one holds no word, and nothing is put there.
 ghost use Rattle.std.specs.Prelude.{◌≤◌, ◌<◌, ◌≡◌, ◌==◌, not, length, get_or, set};
+ghost use Rattle.std.specs.List.{fold};
+ghost use Rattle.std.specs.Int.Bits.{bit_or};
 ghost use Rattle.rules.specs.Limits.{program_words, most_symbols};
 ghost use Rattle.rules.specs.State.{unplaced, plain, refers, is_placed, highest as highest_in, high as high_in};
 ghost use Rattle.state.specs.Layout.{decode, text_cell};
 ghost use Rattle.state.specs.Good.{Good, Holds, with_words};
-ghost use Rattle.state.specs.Words.{Tagged, LastOf};
+ghost use Rattle.state.specs.Words.{Tagged, LastOf, LastEight, UnplacedFrom};
 
 use crate::layout::{PLAIN, REFERENCE, TAGS, TEXTS, UNPLACED};
 use rules::limits::{NO_ADDRESS, PROGRAM_WORDS};
@@ -88,11 +90,44 @@ pub fn highest(state: &[u64], symbol: usize) -> usize
     last_reference(&state[TAGS..], REFERENCE + symbol as u64).unwrap_or(NO_ADDRESS)
 }
 
-// The last tag of a placed word.
-fn last_placed(tags: &[u64]) -> Option<usize>
+// The union of eight tags: 0 if no word is placed there. One test serves for eight words.
+fn eight_tags(tags: &[u64; 8]) -> u64
+    ensures { result ≡ fold bit_or 0 tags.now }
+{
+    tags.iter().fold(0, |all, tag| all | *tag)
+}
+
+// The last eight tags of which one is that of a placed word.
+fn last_eight(eights: &[[u64; 8]]) -> Option<usize>
+    ensures { LastEight eights.now result }
+{
+    eights.iter().rposition(|eight| eight_tags(eight) != 0)
+}
+
+// A position from which on no tag is that of a placed word. How low it is matters for speed alone: `last_placed` looks at each tag
+// below it.
+fn unplaced_from(tags: &[u64]) -> usize
+    ensures { UnplacedFrom tags.now result }
+{
+    let (front, eights) = tags.as_rchunks::<8>();
+    match last_eight(eights) {
+        Some(k) => front.len() + 8 * (k + 1),
+        None => front.len(),
+    }
+}
+
+// The last tag of a placed word, one by one.
+fn last_tag(tags: &[u64]) -> Option<usize>
     ensures { LastOf (λ tag. not (tag == 0)) tags.now result }
 {
     tags.iter().rposition(|tag| *tag != UNPLACED)
+}
+
+// The last tag of a placed word: down by eights to one that holds a word.
+fn last_placed(tags: &[u64]) -> Option<usize>
+    ensures { LastOf (λ tag. not (tag == 0)) tags.now result }
+{
+    last_tag(&tags[..unplaced_from(tags)])
 }
 
 // HIGH: the highest address that holds a placed word, 65,535 if none is placed.

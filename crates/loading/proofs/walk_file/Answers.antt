@@ -10,4 +10,4 @@ pub returns : goal.returns
 returns c =
     rw c.into.ensures
     (walk_refused (items_in c.args.tables.parts.now c.args.tables.rows.now c.args.n) c.walk-far.ensures
-    (c.copy_from_slice-2.ensures.after ∙ c.copy_from_slice.ensures.after) c.if-far-eq-DONE.false c.set_mark.ensures)
+    (c.copy_from_slice.ensures.after ∙ c.copy.ensures) c.if-far-eq-DONE.false c.set_mark.ensures)

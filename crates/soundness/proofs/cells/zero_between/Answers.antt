@@ -1,7 +1,10 @@
-use native.Mathlib.Omega.{arith}
 use mathlib.Core.Path.{◌∙◌}
-use Rattle.soundness.proofs.EachLaws.{zero_each}
+use Rattle.soundness.proofs.EachLaws.{zero_each, cut_each}
 use Rattle.soundness.proofs.cells.zero_between.Goals as goal
 
 pub returns : goal.returns
-returns c = c.zero_from.ensures ∙ zero_each c.args.state.now c.args.from c.args.to (omega arith)
+returns c =
+    let a = c.args in
+    c.all_zero.ensures
+    ∙ cut_each a.state.now a.from a.to _ c.min.ensures
+    ∙ zero_each a.state.now a.from a.to c.requires

@@ -2,13 +2,17 @@
 use Rattle.std.specs.Prelude.{◌==◌}
 use Rattle.std.specs.List.{list_all, fold}
 use Rattle.std.specs.Int.Bits.{bit_or, or_zero_l}
-use Prim.Native.Nat.{ℕ, ◌+◌, ◌≤◌}
+use Rattle.std.proofs.lemmas.List.Folds.{list_all_at}
+use Prim.Native.Nat.{ℕ, ◌<◌}
 use mathlib.Core.Bool.{Bool, true, false, ◌&&◌}
 use mathlib.Core.List.{List, [], ◌∷◌}
 use mathlib.Core.Path.{◌≡◌, refl, ap, ap₂, sym, ◌∙◌}
 use native.Mathlib.Omega.{arith}
 use lib.Bits.{or_add_and, and_le_l, and_le_r}
 use borrow.Author.Tests.{eq-eqb, eqb-true}
+use lib.ListN.{length, get_or}
+use lib.Dec.{eqb}
+use Rattle.rules.proofs.BoolLaws.{never}
 
 same : (s t : Bool) → (s ≡ true → t ≡ true) → (t ≡ true → s ≡ true) → s ≡ t
 same true true f g = refl
@@ -50,3 +54,12 @@ union_with a (c ∷ cells) =
 
 pub union_is : (cells : List ℕ) → (fold bit_or 0 cells == 0) ≡ list_all (λ c. c == 0) cells
 union_is cells = union_with 0 cells
+
+-- each cell, where the union is zero
+pub each_zero : (cells : List ℕ) → fold bit_or 0 cells ≡ 0 → (i : ℕ) → i < length cells → get_or cells i 0 ≡ 0
+each_zero cells e i h = go (eqb (get_or cells i 0) 0) refl
+  where
+    go : (b : Bool) → eqb (get_or cells i 0) 0 ≡ b → get_or cells i 0 ≡ 0
+    go true q = eqb-true (get_or cells i 0) 0 q
+    go false q =
+        absurd (never (sym (union_is cells) ∙ eq-eqb (fold bit_or 0 cells) 0 e) (list_all_at (λ c. c == 0) cells i 0 h q))
