@@ -1,7 +1,7 @@
 // The headers of blocks.
 ghost use Rattle.std.specs.Prelude.{◌≡◌, ◌+◌, length};
 ghost use Rattle.rules.specs.Text.{fields_of};
-ghost use Rattle.rules.specs.Line.{fault, row_of, header_shape_in, shape_for};
+ghost use Rattle.rules.specs.Line.{fault, row_of, header_shape_in, shape_for, line_of};
 ghost use Rattle.rules.specs.declared.line.FaultKind.TheVariants.{BadMarker};
 ghost use Rattle.rules.specs.declared.line.LineAnswer.TheVariants.{Head};
 ghost use Rattle.rules.specs.declared.line.Expected.TheVariants.{AnyHeader};
@@ -10,8 +10,8 @@ ghost use Rattle.line.specs.Fields.{StartsAt};
 
 use crate::fields::{NUMBER, fault_at};
 use crate::fitting::fit;
-use rules::line::{Fault, FaultKind, Header, Kind};
-use text::fields::next_field;
+use rules::line::{Fault, FaultKind, Header, Kind, LineAnswer};
+use text::fields::{field_start, next_field};
 use text::numbers::read_number;
 
 // A header's code has told its shape already.
@@ -60,7 +60,7 @@ fn block_line(line: &[u8], code: u16, unknown: Fault) -> Result<Header, Fault>
 }
 
 // A header, whose code starts at `start`.
-pub fn header_line(line: &[u8], start: usize) -> Result<Header, Fault>
+fn header_at(line: &[u8], start: usize) -> Result<Header, Fault>
     requires { StartsAt 0 line.now start }
     ensures { said_as Head result ≡ shape_said (shape_for AnyHeader (fields_of line.now)) (fault BadMarker (start + 1)) (length line.now + 1) (fields_of line.now) }
 {
@@ -69,4 +69,15 @@ pub fn header_line(line: &[u8], start: usize) -> Result<Header, Fault>
         return Err(unknown);
     };
     block_line(line, code, unknown)
+}
+
+// What a line says where a header is expected. A line with no field is skipped.
+pub fn header_line(line: &[u8]) -> Result<LineAnswer, Fault>
+    ensures { said_as (λ answer. answer) result ≡ line_of AnyHeader (length line.now + 1) (fields_of line.now) }
+{
+    let start = field_start(line, 0);
+    if start == line.len() {
+        return Ok(LineAnswer::Blank);
+    }
+    Ok(LineAnswer::Head(header_at(line, start)?))
 }

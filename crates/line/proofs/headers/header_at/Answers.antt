@@ -1,9 +1,9 @@
--- `line::headers::header_line` meets its contract: by its code.
+-- `line::headers::header_at` meets its contract: by its code.
 -- Assumes nothing.
 use Rattle.rules.specs.Line.{shape_for, row_at, header_shape_in}
 use Rattle.line.specs.Fitting.{shape_said}
 use Rattle.line.proofs.PeekLaws.{first_is}
-use Rattle.line.proofs.headers.header_line.Goals as goal
+use Rattle.line.proofs.headers.header_at.Goals as goal
 
 pub returns-in_default : goal.returns-in_default
 unfolding shape_for shape_said row_at header_shape_in
