@@ -5,13 +5,14 @@ ghost use Rattle.rules.specs.Line.{fault, row_of, header_shape_in, shape_for, li
 ghost use Rattle.rules.specs.declared.line.FaultKind.TheVariants.{BadMarker};
 ghost use Rattle.rules.specs.declared.line.LineAnswer.TheVariants.{Head};
 ghost use Rattle.rules.specs.declared.line.Expected.TheVariants.{AnyHeader};
+ghost use Rattle.text.specs.FieldBounds.{field_start};
 ghost use Rattle.line.specs.Fitting.{said_as, shape_said};
 ghost use Rattle.line.specs.Fields.{StartsAt};
 
 use crate::fields::{NUMBER, fault_at};
 use crate::fitting::fit;
 use rules::line::{Fault, FaultKind, Header, Kind, LineAnswer};
-use text::fields::{field_start, next_field};
+use text::fields::next_field;
 use text::numbers::read_number;
 
 // A header's code has told its shape already.
@@ -26,8 +27,8 @@ fn block_line(line: &[u8], code: u16, unknown: Fault) -> Result<Header, Fault>
         0 => {
             let n = fit(line, &[CODE, NUMBER, NUMBER, Kind::Marker(0)])?;
             Ok(Header::CodeBlock {
-                count: n[1],
-                offset: n[2],
+                count: n.numbers[1],
+                offset: n.numbers[2],
             })
         }
         1 => {
@@ -38,8 +39,8 @@ fn block_line(line: &[u8], code: u16, unknown: Fault) -> Result<Header, Fault>
             fit(line, &[CODE, Kind::Marker(3)])?;
             Ok(Header::TitleBlock)
         }
-        4 => Ok(Header::EntryBlock(fit(line, &[CODE, NUMBER, Kind::Marker(4)])?[1])),
-        5 => Ok(Header::ExternalBlock(fit(line, &[CODE, NUMBER, Kind::Marker(5)])?[1])),
+        4 => Ok(Header::EntryBlock(fit(line, &[CODE, NUMBER, Kind::Marker(4)])?.numbers[1])),
+        5 => Ok(Header::ExternalBlock(fit(line, &[CODE, NUMBER, Kind::Marker(5)])?.numbers[1])),
         6 => {
             fit(line, &[CODE, Kind::Marker(6)])?;
             Ok(Header::LibraryStart)
@@ -50,11 +51,11 @@ fn block_line(line: &[u8], code: u16, unknown: Fault) -> Result<Header, Fault>
         }
         8 => {
             let n = fit(line, &[CODE, NUMBER, Kind::Name, NUMBER, Kind::Marker(8)])?;
-            Ok(Header::DataBlock(n[1]))
+            Ok(Header::DataBlock(n.numbers[1]))
         }
-        9 => Ok(Header::InitBlock(fit(line, &[CODE, NUMBER, Kind::Marker(9)])?[1])),
-        10 => Ok(Header::ParameterBlock(fit(line, &[CODE, NUMBER, Kind::Marker(10)])?[1])),
-        11 => Ok(Header::EntryBlock(fit(line, &[CODE, NUMBER, Kind::Marker(11)])?[1])),
+        9 => Ok(Header::InitBlock(fit(line, &[CODE, NUMBER, Kind::Marker(9)])?.numbers[1])),
+        10 => Ok(Header::ParameterBlock(fit(line, &[CODE, NUMBER, Kind::Marker(10)])?.numbers[1])),
+        11 => Ok(Header::EntryBlock(fit(line, &[CODE, NUMBER, Kind::Marker(11)])?.numbers[1])),
         _ => Err(unknown),
     }
 }
@@ -71,11 +72,11 @@ fn header_at(line: &[u8], start: usize) -> Result<Header, Fault>
     block_line(line, code, unknown)
 }
 
-// What a line says where a header is expected. A line with no field is skipped.
-pub fn header_line(line: &[u8]) -> Result<LineAnswer, Fault>
+// What a line says where a header is expected, whose first field starts at `start`. A line with no field is skipped.
+pub fn header_line(line: &[u8], start: usize) -> Result<LineAnswer, Fault>
+    requires { start ≡ field_start 0 (length line.now) line.now }
     ensures { said_as (λ answer. answer) result ≡ line_of AnyHeader (length line.now + 1) (fields_of line.now) }
 {
-    let start = field_start(line, 0);
     if start == line.len() {
         return Ok(LineAnswer::Blank);
     }

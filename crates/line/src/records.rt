@@ -59,8 +59,8 @@ fn linked_line(line: &[u8]) -> Result<CodeWord, Fault>
         ],
     )?;
     Ok(CodeWord {
-        text: word(n[1], n[2], n[3], n[4]),
-        relocation: relocation_of(n[6], n[7]),
+        text: word(n.numbers[1], n.numbers[2], n.numbers[3], n.numbers[4]),
+        relocation: relocation_of(n.numbers[6], n.numbers[7]),
     })
 }
 
