@@ -1,14 +1,18 @@
 -- The whole line: its bytes, whether it has a field, and what is expected of it.
 -- Assumes nothing.
-use Prim.Native.Nat.{ℕ, ◌-◌, ◌≤◌, ◌<◌}
+use Prim.Native.Nat.{ℕ, ◌+◌, ◌-◌, ◌≤◌, ◌<◌}
+use mathlib.Core.Bool.{false}
 use mathlib.Core.List.{List}
 use mathlib.Core.Option.{some}
 use mathlib.Core.Path.{◌≡◌, refl, ◌∙◌}
-use borrow.Author.Tests.{le-leb}
+use borrow.Author.Tests.{le-leb, lt-leb}
 use Rattle.rules.specs.Text.{fields_of, legal_front}
-use Rattle.rules.specs.Line.{Shape, read_as, shape_for, say_fields_over, line_of, line_over, test_bytes, line_answer, line_answer_over}
+use Rattle.rules.specs.Line.{fault, Shape, read_as, shape_for, say_fields_over, line_of, line_over, fault_in, within, test_bytes, line_answer, line_answer_over}
+use Rattle.rules.specs.declared.line.Fault.{Fault}
+use Rattle.rules.specs.declared.line.FaultKind.TheVariants.{IllegalByte}
 use Rattle.rules.specs.declared.line.Expected.{Expected}
 use Rattle.rules.specs.declared.line.LineAnswer.{LineAnswer}
+use Rattle.rules.specs.declared.line.LineAnswer.TheVariants.{Bad, Blank, Head, Opening, Closing, Code, Entered, Mentioned, Ignored, Parameter, Sub}
 use Rattle.text.specs.Scan.{part, InFile}
 use Rattle.text.specs.FieldBounds.{field_start}
 use Rattle.text.proofs.FieldLaws.{field_found}
@@ -17,9 +21,42 @@ use Rattle.line.specs.Fitting.{line_fields, end_column}
 
 -- ---- the bytes
 
-pub all_legal : (front size : ℕ) (a : LineAnswer) → size ≤ front → a ≡ test_bytes front size a
-unfolding test_bytes
-all_legal front size a h = simp (le-leb size front h)
+-- an answer of another variant is no fault
+no_fault : (n : ℕ) (a : LineAnswer) → ((f : Fault) → a ≡ Bad f → ⊥) → within n (fault_in a) ≡ false
+unfolding fault_in within
+no_fault n (Bad f) h = absurd (h f refl)
+no_fault n Blank h = refl
+no_fault n (Head x) h = refl
+no_fault n (Opening x) h = refl
+no_fault n (Closing x) h = refl
+no_fault n (Code x) h = refl
+no_fault n (Entered x) h = refl
+no_fault n (Mentioned x) h = refl
+no_fault n Ignored h = refl
+no_fault n (Parameter x) h = refl
+no_fault n Sub h = refl
+
+module _ (front size : ℕ) (a : LineAnswer) where
+  pub all_legal : size ≤ front → a ≡ test_bytes front size a
+  unfolding test_bytes
+  all_legal h = simp (le-leb size front h)
+
+  module _ (h : front < size) where
+    pub fault_first : {f : Fault} → a ≡ Bad f → f.column ≤ front → Bad f ≡ test_bytes front size a
+    unfolding test_bytes fault_in within
+    fault_first e g = rw e (simp (lt-leb size front h, le-leb _ front g))
+
+    -- the fault, if there is any, stands further right
+    byte_first : within front (fault_in a) ≡ false → {o : LineAnswer} → o ≡ Bad (fault IllegalByte (front + 1)) → o ≡ test_bytes front size a
+    unfolding test_bytes
+    byte_first n p = p ∙ simp (lt-leb size front h, n)
+
+    pub byte_before : {f : Fault} → a ≡ Bad f → front < f.column → {o : LineAnswer} → o ≡ Bad (fault IllegalByte (front + 1)) → o ≡ test_bytes front size a
+    unfolding fault_in within
+    byte_before e g p = byte_first (rw e (lt-leb _ front g)) p
+
+    pub byte_only : ((f : Fault) → a ≡ Bad f → ⊥) → {o : LineAnswer} → o ≡ Bad (fault IllegalByte (front + 1)) → o ≡ test_bytes front size a
+    byte_only t p = byte_first (no_fault front a t) p
 
 -- ---- the whole line
 

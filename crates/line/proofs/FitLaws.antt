@@ -9,7 +9,7 @@ use lib.Seq.{drop-cons, get_or-set_same, get_or-set_other}
 use native.Mathlib.Numerals.{add-one}
 use Rattle.std.proofs.lemmas.List.{get_or_default}
 use Rattle.rules.specs.Text.{Field, fields_from, fields_of}
-use Rattle.rules.specs.Line.{value, wrong, read_field, Fitted, fits, misfit, in_front, fit, fit_over, fault, text_at}
+use Rattle.rules.specs.Line.{value, wrong, read_field, Fitted, fits, misfit, in_front, fit, fit_over, fault}
 use Rattle.rules.specs.declared.line.Fault.{Fault}
 use Rattle.rules.specs.declared.line.FaultKind.{FaultKind}
 use Rattle.rules.specs.declared.line.FaultKind.TheVariants.{FieldCount}
@@ -19,10 +19,8 @@ use Rattle.text.specs.Scan.{part, InFile}
 use Rattle.text.specs.FieldBounds.{field_start, field_stop}
 use Rattle.text.proofs.FieldLaws.{FieldFound, field, field_found, no_field, start_least, start_most}
 use Rattle.text.proofs.ScanLaws.{in_line, part_all}
-use Rattle.text.specs.Digits.{field_text}
-use Rattle.line.specs.Fields.{value_as, next_text, FieldLeft, FieldAs, FieldWrong, missing, differs}
+use Rattle.line.specs.Fields.{value_as, FieldLeft, FieldAs, FieldWrong, missing, differs}
 use Rattle.line.specs.Fitting.{values_of, line_fields}
-use Rattle.line.proofs.FieldLaws.{later, this}
 
 -- ---- values in front of those that are fitted
 
@@ -151,66 +149,56 @@ module _ {ks : List Kind} {l done : List ℕ} {i : ℕ} where
     pub line_end : field_start i (length l) l ≡ length l → fits done ≡ fit (length l + 1) ks (fields_of l)
     line_end n = line_told ks l (fitting_end (length l) (sym n) f (omega arith))
 
--- ---- the loop's numbers
+-- ---- the loop's numbers and names
 
-module _ (ks : List Kind) (fs : List Field) (ns : List ℕ) (k n : ℕ) where
+module _ (ks : List Kind) (ns ms : List ℕ) (k n m : ℕ) where
   -- what stands at k does not count among the first values
-  values_kept : (m : ℕ) → m ≤ k → values_of m ks fs (set ns k n) ≡ values_of m ks fs ns
+  values_kept : (j : ℕ) → j ≤ k → values_of j ks (set ns k n) (set ms k m) ≡ values_of j ks ns ms
   unfolding values_of
   values_kept zero h = refl
-  values_kept (suc m) h = rw (values_kept m (omega arith), get_or-set_other ns k m n 0 (λ e. omega arith))
+  values_kept (suc j) h =
+      rw (values_kept j (omega arith), get_or-set_other ns k j n 0 (λ e. omega arith), get_or-set_other ms k j m 0 (λ e. omega arith))
 
-  values_more : k < length ns → values_of (suc k) ks fs (set ns k n) ≡ values_of k ks fs ns ++ (value_as (get_or ks k Anything) (text_at fs k) n ∷ [])
+  values_more : k < length ns → k < length ms
+      → values_of (suc k) ks (set ns k n) (set ms k m) ≡ values_of k ks ns ms ++ (value_as (get_or ks k Anything) n m ∷ [])
   unfolding values_of
-  values_more h = rw (values_kept k (omega arith), get_or-set_same ns k n 0 h)
+  values_more h g = rw (values_kept k (omega arith), get_or-set_same ns k n 0 h, get_or-set_same ms k m 0 g)
 
 -- k fields are read, and the other kinds are left
-pub record Kept (ks : List Kind) (l ns : List ℕ) (i k : ℕ) : Type 0 where
+pub record Kept (ks : List Kind) (l ns ms : List ℕ) (i k : ℕ) : Type 0 where
   pub within : i ≤ length l
-  pub size : length ns ≡ 8
-  pub fitting : Fitting ks 0 (length l) l (values_of k ks (fields_of l) ns) (drop k ks) i
-  pub column : ℕ
-  pub texts : (m : ℕ) → text_at (fields_of l) (k + m) ≡ text_at (fields_from column (part i (length l) l)) m
+  pub numbers : length ns ≡ 8
+  pub names : length ms ≡ 8
+  pub fitting : Fitting ks 0 (length l) l (values_of k ks ns ms) (drop k ks) i
 
-pub kept_start : (ks : List Kind) (l ns : List ℕ) → length ns ≡ 8 → Kept ks l ns 0 0
-unfolding values_of fields_of
-kept_start ks l ns n =
-    record {
-      within = omega arith;
-      size = n;
-      fitting = line_start ks l;
-      column = 1;
-      texts =
-          λ m. let z : 0 + m ≡ m = omega arith in
-          rw (z, part_all 0 l) refl;
-    }
+pub kept_start : (ks : List Kind) (l ns ms : List ℕ) → length ns ≡ 8 → length ms ≡ 8 → Kept ks l ns ms 0 0
+unfolding values_of
+kept_start ks l ns ms n m = record { within = omega arith; numbers = n; names = m; fitting = line_start ks l }
 
-module _ {ks : List Kind} {l ns : List ℕ} {i k : ℕ} (q : Kept ks l ns i k) where
+module _ {ks : List Kind} {l ns ms : List ℕ} {i k : ℕ} (q : Kept ks l ns ms i k) where
   module _ (d : Kind) (h : k < length ks) where
-    next : Fitting ks 0 (length l) l (values_of k ks (fields_of l) ns) (get_or ks k d ∷ drop (suc k) ks) i
+    next : Fitting ks 0 (length l) l (values_of k ks ns ms) (get_or ks k d ∷ drop (suc k) ks) i
     next = rw (drop-cons ks k d h) at q.fitting
 
     pub kept_wrong : {f : Fault} → FieldWrong (get_or ks k d) i l f → misfit f ≡ fit (length l + 1) ks (fields_of l)
     kept_wrong w = line_wrong next w
 
-    pub kept_step : (n : ℕ) {e : ℕ} → k < 8 → FieldAs (get_or ks k d) i l (value_as (get_or ks k d) (next_text i l) n) e → Kept ks l (set ns k n) e (k + 1)
-    kept_step n {e} g a =
-        let z : k + 0 ≡ k = omega arith in
-        let t : text_at (fields_of l) k ≡ next_text i l = rw z at (q.texts 0) ∙ this q.within a q.column ∙ ap (λ (s : ℕ). field_text s (length l) l) a.starts.found in
+    pub kept_step : (n m : ℕ) {e : ℕ} → k < 8 → FieldAs (get_or ks k d) i l (value_as (get_or ks k d) n m) e → Kept ks l (set ns k n) (set ms k m) e (k + 1)
+    kept_step n m {e} g a =
         record {
           within = a.most;
-          size = length-set ns k n ∙ q.size;
-          fitting = rw (add-one, values_more ks (fields_of l) ns k n (omega (arith, q.size)), get_or_default ks k Anything d h, t) (line_more next a);
-          column = q.column + (e - i);
-          texts = λ m. let y : k + 1 + m ≡ k + suc m = omega arith in rw y (q.texts (suc m) ∙ later q.within a q.column m);
+          numbers = length-set ns k n ∙ q.numbers;
+          names = length-set ms k m ∙ q.names;
+          fitting =
+              rw (add-one, values_more ks ns ms k n m (omega (arith, q.numbers)) (omega (arith, q.names)), get_or_default ks k Anything d h) (line_more next a);
         }
 
   module _ (h : length ks ≤ k) where
-    last : Fitting ks 0 (length l) l (values_of k ks (fields_of l) ns) [] i
+    last : Fitting ks 0 (length l) l (values_of k ks ns ms) [] i
     last = rw (drop_of_length-le ks h) at q.fitting
 
     pub kept_many : {f : Fault} → FieldLeft i l f → misfit f ≡ fit (length l + 1) ks (fields_of l)
     kept_many n = line_many last n
 
-    pub kept_end : k ≤ length ks → field_start i (length l) l ≡ length l → fits (values_of (length ks) ks (fields_of l) ns) ≡ fit (length l + 1) ks (fields_of l)
+    pub kept_end : k ≤ length ks → field_start i (length l) l ≡ length l → fits (values_of (length ks) ks ns ms) ≡ fit (length l + 1) ks (fields_of l)
     kept_end g n = let m : k ≡ length ks = omega arith in rw m at (line_end last n)

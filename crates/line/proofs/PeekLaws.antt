@@ -15,7 +15,7 @@ use Rattle.rules.specs.declared.line.FaultKind.TheVariants.{BadMarker}
 use Rattle.text.specs.Scan.{part, InFile}
 use Rattle.text.specs.FieldBounds.{field_start, field_stop, first}
 use Rattle.text.specs.Digits.{field_text}
-use Rattle.text.proofs.FieldLaws.{field, next_field, field_found, no_field, stop_most}
+use Rattle.text.proofs.FieldLaws.{field, next_field, field_found, no_field, start_most, stop_most}
 use Rattle.text.proofs.ScanLaws.{in_line, part_nil, part_cons, part_all}
 use Rattle.line.specs.Fields.{StartsAt}
 use Rattle.line.specs.Fitting.{line_fields, shape_said}
@@ -60,6 +60,18 @@ module _ (at stop s : ℕ) (l : List ℕ) (h : InFile at stop l) (e : s ≡ fiel
 pub fields_none : (l : List ℕ) {s : ℕ} → s ≡ field_start 0 (length l) l → s ≡ length l → fields_of l ≡ []
 unfolding fields_of
 fields_none l {s} e n = ap (fields_from 1) (sym (part_all 0 l)) ∙ no_field 0 (length l) s l (in_line _ _ (omega arith)) e n 1
+
+module _ (l : List ℕ) {s : ℕ} (e : s ≡ field_start 0 (length l) l) where
+  -- it starts there, where it has one
+  pub starts : (s ≡ length l → ⊥) → StartsAt 0 l s
+  starts n =
+      let m : s ≤ length l = rw (← e) at (start_most 0 (length l) l (in_line _ _ (omega arith))) in
+      record { found = e; inside = omega (arith, m, n) }
+
+  -- where it has none, no asterisk stands in front
+  pub unstarred_none : s ≡ length l → starred (fields_of l) ≡ false
+  unfolding first_text
+  unstarred_none n = sym (none_first _ (ap first_text (fields_none l e n)))
 
 module _ (l : List ℕ) (s : ℕ) (b : StartsAt 0 l s) where
   others : List Field

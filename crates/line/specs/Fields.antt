@@ -1,7 +1,5 @@
 -- A field of a line, read where it stands. A line is the text l, and its fields are asked for from position i on.
 use Rattle.std.specs.Prelude.{ℕ, ◌+◌, ◌≤◌, ◌<◌, List, ◌≡◌, length, Result, Ok, Err}
-use Rattle.std.proofs.Math.Option.{Option, none, some}
-use Rattle.rules.specs.Text.{name_of}
 use Rattle.rules.specs.Line.{Held, value, wrong, read_field, fault}
 use Rattle.rules.specs.declared.line.Fault.{Fault}
 use Rattle.rules.specs.declared.line.FaultKind.{FaultKind}
@@ -11,32 +9,27 @@ use Rattle.rules.specs.declared.line.Kind.TheVariants.{Number, Name, Anything, M
 use Rattle.text.specs.FieldBounds.{field_start}
 use Rattle.text.specs.Digits.{field_text}
 use Rattle.line.specs.declared.fields.FieldFrom.{FieldFrom}
+use Rattle.line.specs.declared.fields.Value.{Value}
 
 -- the answer of `within`
 abbrev pub held_in : Result ℕ FaultKind → Held
 held_in (Ok v) = value v
 held_in (Err j) = wrong j
 
--- a name's value, 0 where there is none
-unfoldable pub name_value : Option ℕ → ℕ
-name_value none = 0
-name_value (some n) = n
+-- the value of a field of that kind, of which this number and this name were read
+abbrev pub value_as : Kind → ℕ → ℕ → ℕ
+value_as (Number low high j) number name = number
+value_as Name number name = name
+value_as Anything number name = 0
+value_as (Marker c) number name = 0
 
--- the value of a field of a kind, with that text and that number; the code keeps no value but a number's
-abbrev pub value_as : Kind → List ℕ → ℕ → ℕ
-value_as (Number low high j) t n = n
-value_as Name t n = name_value (name_of t)
-value_as Anything t n = 0
-value_as (Marker c) t n = 0
+abbrev pub value_in_field : Kind → Value → ℕ
+value_in_field k v = value_as k v.number v.name
 
 -- the answer of `read_field`
-abbrev pub as_held : Kind → List ℕ → Result ℕ FaultKind → Held
-as_held k t (Ok n) = value (value_as k t n)
-as_held k t (Err j) = wrong j
-
--- the text of the next field
-abbrev pub next_text : ℕ → List ℕ → List ℕ
-next_text i l = field_text (field_start i (length l) l) (length l) l
+abbrev pub as_held : Kind → Result Value FaultKind → Held
+as_held k (Ok v) = value (value_in_field k v)
+as_held k (Err j) = wrong j
 
 -- the next field starts at s
 pub record StartsAt (i : ℕ) (l : List ℕ) (s : ℕ) : Type 0 where

@@ -10,16 +10,18 @@ use Rattle.rules.specs.declared.line.LineAnswer.{LineAnswer}
 use Rattle.rules.specs.declared.line.LineAnswer.TheVariants.{Bad}
 use Rattle.text.specs.Scan.{part}
 use Rattle.line.specs.Fields.{value_as}
+use Rattle.line.specs.declared.fitting.FieldsRead.{FieldsRead}
 
--- the values of the first k fields of a line, with these numbers
-unfoldable pub values_of : ℕ → List Kind → List Field → List ℕ → List ℕ
-values_of zero ks fs ns = []
-values_of (suc k) ks fs ns = values_of k ks fs ns ++ (value_as (get_or ks k Anything) (text_at fs k) (nth ns k) ∷ [])
+-- the values of the first k fields of a line, of which these numbers and these names were read
+unfoldable pub values_of : ℕ → List Kind → List ℕ → List ℕ → List ℕ
+values_of zero ks numbers names = []
+values_of (suc k) ks numbers names =
+    values_of k ks numbers names ++ (value_as (get_or ks k Anything) (nth numbers k) (nth names k) ∷ [])
 
 -- the answer of `fit`
-abbrev pub as_fitted : List Kind → List Field → Result (List ℕ) Fault → Fitted
-as_fitted ks fs (Ok ns) = fits (values_of (length ks) ks fs ns)
-as_fitted ks fs (Err f) = misfit f
+abbrev pub as_fitted : List Kind → Result FieldsRead Fault → Fitted
+as_fitted ks (Ok r) = fits (values_of (length ks) ks r.numbers r.names)
+as_fitted ks (Err f) = misfit f
 
 -- what a line says, by the answer of a function that tells a fault apart: the rules count one among the answers
 abbrev pub said_as : {T : Type 0} → (T → LineAnswer) → Result T Fault → LineAnswer

@@ -4,7 +4,7 @@ ghost use Rattle.rules.specs.declared.line.FaultKind.TheVariants.{BadNumber};
 ghost use Rattle.rules.specs.declared.line.Kind.TheVariants.{Number as NumberKind, Name as NameKind};
 ghost use Rattle.rules.specs.Line.{fault, read_field, in_bounds, held};
 ghost use Rattle.text.specs.Values.{value_in};
-ghost use Rattle.line.specs.Fields.{held_in, as_held, value_as, next_text, Starts, Ends, Reads};
+ghost use Rattle.line.specs.Fields.{held_in, as_held, value_in_field, Starts, Ends, Reads};
 
 use rules::limits::LARGEST_NUMBER;
 use rules::line::{Fault, FaultKind, Kind};
@@ -23,6 +23,13 @@ pub const NUMBER: Kind = Kind::Number {
     high: LARGEST,
     outside: FaultKind::BadNumber,
 };
+
+// What a field of a kind holds: a number, or a packed name. What it does not hold is 0.
+#[derive(Clone, Copy)]
+pub struct Value {
+    pub number: u16,
+    pub name: u64,
+}
 
 // A field that is of its kind, as it was read, and where it ends.
 #[derive(Clone, Copy)]
@@ -54,16 +61,22 @@ fn within(number: Option<u16>, low: u16, high: u16, outside: FaultKind) -> Resul
     }
 }
 
-// The number in a field that has to be of this kind, 0 where the kind is no number.
-#[tactic(auto, unfolding(rules::specs::Line::read_field_over, rules::specs::Line::held, crate::specs::Fields::name_value))]
-fn read_field(field: &[u8], kind: Kind) -> Result<u16, FaultKind>
-    ensures { as_held kind field.now result ≡ read_field kind field.now }
+// What a field holds that has to be of this kind.
+#[tactic(auto, unfolding(rules::specs::Line::read_field_over, rules::specs::Line::held))]
+fn read_field(field: &[u8], kind: Kind) -> Result<Value, FaultKind>
+    ensures { as_held kind result ≡ read_field kind field.now }
 {
     match kind {
-        Kind::Number { low, high, outside } => within(read_number(field), low, high, outside),
-        Kind::Name if read_name(field).is_none() => Err(FaultKind::BadName),
+        Kind::Number { low, high, outside } => Ok(Value {
+            number: within(read_number(field), low, high, outside)?,
+            name: 0,
+        }),
+        Kind::Name => match read_name(field) {
+            Some(name) => Ok(Value { number: 0, name }),
+            None => Err(FaultKind::BadName),
+        },
         Kind::Marker(code) if !is_marker(field, code) => Err(FaultKind::BadMarker),
-        _ => Ok(0),
+        _ => Ok(Value { number: 0, name: 0 }),
     }
 }
 
@@ -93,9 +106,9 @@ pub fn no_more(line: &[u8], i: usize) -> Result<(), Fault>
 
 // The next field, of any kind.
 #[tactic(auto, using(text::proofs::FieldLaws::start_again))]
-pub fn field_at(line: &[u8], i: usize, kind: Kind) -> Result<FieldFrom<u16>, Fault>
+pub fn field_at(line: &[u8], i: usize, kind: Kind) -> Result<FieldFrom<Value>, Fault>
     requires { i ≤ length line.now }
-    ensures { Reads (value_as kind (next_text i line.now)) kind i line.now result }
+    ensures { Reads (value_in_field kind) kind i line.now result }
 {
     let start = start_of(line, i)?;
     let field = field_from(line, start);

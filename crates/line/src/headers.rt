@@ -1,16 +1,17 @@
 // The headers of blocks.
 ghost use Rattle.std.specs.Prelude.{◌≡◌, ◌+◌, length};
 ghost use Rattle.rules.specs.Text.{fields_of};
-ghost use Rattle.rules.specs.Line.{fault, row_of, header_shape_in, shape_for};
+ghost use Rattle.rules.specs.Line.{fault, row_of, header_shape_in, shape_for, line_of};
 ghost use Rattle.rules.specs.declared.line.FaultKind.TheVariants.{BadMarker};
 ghost use Rattle.rules.specs.declared.line.LineAnswer.TheVariants.{Head};
 ghost use Rattle.rules.specs.declared.line.Expected.TheVariants.{AnyHeader};
+ghost use Rattle.text.specs.FieldBounds.{field_start};
 ghost use Rattle.line.specs.Fitting.{said_as, shape_said};
 ghost use Rattle.line.specs.Fields.{StartsAt};
 
 use crate::fields::{NUMBER, fault_at};
 use crate::fitting::fit;
-use rules::line::{Fault, FaultKind, Header, Kind};
+use rules::line::{Fault, FaultKind, Header, Kind, LineAnswer};
 use text::fields::next_field;
 use text::numbers::read_number;
 
@@ -26,8 +27,8 @@ fn block_line(line: &[u8], code: u16, unknown: Fault) -> Result<Header, Fault>
         0 => {
             let n = fit(line, &[CODE, NUMBER, NUMBER, Kind::Marker(0)])?;
             Ok(Header::CodeBlock {
-                count: n[1],
-                offset: n[2],
+                count: n.numbers[1],
+                offset: n.numbers[2],
             })
         }
         1 => {
@@ -38,8 +39,8 @@ fn block_line(line: &[u8], code: u16, unknown: Fault) -> Result<Header, Fault>
             fit(line, &[CODE, Kind::Marker(3)])?;
             Ok(Header::TitleBlock)
         }
-        4 => Ok(Header::EntryBlock(fit(line, &[CODE, NUMBER, Kind::Marker(4)])?[1])),
-        5 => Ok(Header::ExternalBlock(fit(line, &[CODE, NUMBER, Kind::Marker(5)])?[1])),
+        4 => Ok(Header::EntryBlock(fit(line, &[CODE, NUMBER, Kind::Marker(4)])?.numbers[1])),
+        5 => Ok(Header::ExternalBlock(fit(line, &[CODE, NUMBER, Kind::Marker(5)])?.numbers[1])),
         6 => {
             fit(line, &[CODE, Kind::Marker(6)])?;
             Ok(Header::LibraryStart)
@@ -50,17 +51,17 @@ fn block_line(line: &[u8], code: u16, unknown: Fault) -> Result<Header, Fault>
         }
         8 => {
             let n = fit(line, &[CODE, NUMBER, Kind::Name, NUMBER, Kind::Marker(8)])?;
-            Ok(Header::DataBlock(n[1]))
+            Ok(Header::DataBlock(n.numbers[1]))
         }
-        9 => Ok(Header::InitBlock(fit(line, &[CODE, NUMBER, Kind::Marker(9)])?[1])),
-        10 => Ok(Header::ParameterBlock(fit(line, &[CODE, NUMBER, Kind::Marker(10)])?[1])),
-        11 => Ok(Header::EntryBlock(fit(line, &[CODE, NUMBER, Kind::Marker(11)])?[1])),
+        9 => Ok(Header::InitBlock(fit(line, &[CODE, NUMBER, Kind::Marker(9)])?.numbers[1])),
+        10 => Ok(Header::ParameterBlock(fit(line, &[CODE, NUMBER, Kind::Marker(10)])?.numbers[1])),
+        11 => Ok(Header::EntryBlock(fit(line, &[CODE, NUMBER, Kind::Marker(11)])?.numbers[1])),
         _ => Err(unknown),
     }
 }
 
 // A header, whose code starts at `start`.
-pub fn header_line(line: &[u8], start: usize) -> Result<Header, Fault>
+fn header_at(line: &[u8], start: usize) -> Result<Header, Fault>
     requires { StartsAt 0 line.now start }
     ensures { said_as Head result ≡ shape_said (shape_for AnyHeader (fields_of line.now)) (fault BadMarker (start + 1)) (length line.now + 1) (fields_of line.now) }
 {
@@ -69,4 +70,15 @@ pub fn header_line(line: &[u8], start: usize) -> Result<Header, Fault>
         return Err(unknown);
     };
     block_line(line, code, unknown)
+}
+
+// What a line says where a header is expected, whose first field starts at `start`. A line with no field is skipped.
+pub fn header_line(line: &[u8], start: usize) -> Result<LineAnswer, Fault>
+    requires { start ≡ field_start 0 (length line.now) line.now }
+    ensures { said_as (λ answer. answer) result ≡ line_of AnyHeader (length line.now + 1) (fields_of line.now) }
+{
+    if start == line.len() {
+        return Ok(LineAnswer::Blank);
+    }
+    Ok(LineAnswer::Head(header_at(line, start)?))
 }

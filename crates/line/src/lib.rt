@@ -38,7 +38,7 @@ fn shape_line(line: &[u8], start: usize, expected: Expected) -> Result<LineAnswe
     ensures { said_as (λ answer. answer) result ≡ shape_said (shape_for expected (fields_of line.now)) (fault BadMarker (start + 1)) (length line.now + 1) (fields_of line.now) }
 {
     match expected {
-        Expected::AnyHeader => Ok(LineAnswer::Head(header_line(line, start)?)),
+        Expected::AnyHeader => header_line(line, start),
         Expected::OpeningTitle => Ok(LineAnswer::Opening(name_alone(line)?)),
         Expected::ClosingTitle => Ok(LineAnswer::Closing(name_alone(line)?)),
         Expected::CodeRecord => Ok(LineAnswer::Code(code_line(line, start)?)),
@@ -54,7 +54,7 @@ fn shape_line(line: &[u8], start: usize, expected: Expected) -> Result<LineAnswe
         }
         Expected::ParameterRecord => {
             let n = fit(line, &[NUMBER, NUMBER, SUB_RECORDS])?;
-            Ok(LineAnswer::Parameter(n[2]))
+            Ok(LineAnswer::Parameter(n.numbers[2]))
         }
         Expected::SubRecord => {
             fit(line, &[NUMBER, NUMBER])?;

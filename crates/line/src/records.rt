@@ -3,7 +3,7 @@ ghost use Rattle.std.specs.Prelude.{false, ◌≡◌, ◌+◌, length};
 ghost use Rattle.rules.specs.Text.{fields_of};
 ghost use Rattle.rules.specs.Line.{read_as, record_shape, linked_code, starred, code_shape, word_of, relocation_of};
 ghost use Rattle.rules.specs.declared.line.LineAnswer.TheVariants.{Code};
-ghost use Rattle.line.specs.Fields.{StartsAt};
+ghost use Rattle.text.specs.FieldBounds.{field_start};
 ghost use Rattle.line.specs.Fitting.{said_as};
 
 use crate::fields::{EXTERNAL_TYPE, NUMBER, no_more, number_at};
@@ -59,8 +59,8 @@ fn linked_line(line: &[u8]) -> Result<CodeWord, Fault>
         ],
     )?;
     Ok(CodeWord {
-        text: word(n[1], n[2], n[3], n[4]),
-        relocation: relocation_of(n[6], n[7]),
+        text: word(n.numbers[1], n.numbers[2], n.numbers[3], n.numbers[4]),
+        relocation: relocation_of(n.numbers[6], n.numbers[7]),
     })
 }
 
@@ -85,11 +85,14 @@ fn plain_line(line: &[u8]) -> Result<CodeWord, Fault>
     })
 }
 
-// Is the first field, which starts at `start`, an asterisk? Of most lines its first byte tells.
+// Is the first field, which starts at `start`, an asterisk? Of most lines its first byte tells. A line with no field is read as a plain one.
 pub fn code_line(line: &[u8], start: usize) -> Result<CodeWord, Fault>
-    requires { StartsAt 0 line.now start }
+    requires { start ≡ field_start 0 (length line.now) line.now }
     ensures { said_as Code result ≡ read_as (code_shape (fields_of line.now)) (length line.now + 1) (fields_of line.now) }
 {
+    if start == line.len() {
+        return plain_line(line);
+    }
     if line[start] != b'*' {
         return plain_line(line);
     }
