@@ -2,7 +2,9 @@
 use crate::command::Command;
 use crate::files::{deliver, not_found, read_file, write_file};
 use crate::input::TooLong;
-use crate::listing::{write_end, write_high, write_table, write_undefined};
+use crate::listing::{
+    put_undefined, table_rows, undefined_rows, write_end, write_high, write_table,
+};
 use crate::page::{Page, say};
 use crate::refusals::tell;
 use crate::tape::feed_file;
@@ -130,19 +132,19 @@ impl Session {
     }
 
     fn symbols(&mut self, rt: &(impl Files + Print + Eprint), path: &[u8]) {
-        let a = lnk100_memory(&self.state);
+        let (a, rows) = table_rows(&self.state);
         if tell(rt, a.into()) {
             let mut page = Page::new(&mut self.room);
-            let _ = write_table(&mut page, &self.state, a.high);
+            let _ = write_table(&mut page, a.high, &rows);
             deliver(rt, path, page.text());
         }
     }
 
     fn undefined(&mut self, rt: &(impl Files + Print + Eprint), path: &[u8]) {
-        let a = lnk100_undefined(&self.state, 0);
+        let (a, rows) = undefined_rows(&self.state);
         if tell(rt, a.into()) {
             let mut page = Page::new(&mut self.room);
-            let _ = write_undefined(&mut page, &self.state);
+            put_undefined(&mut page, &rows);
             deliver(rt, path, page.text());
         }
     }
