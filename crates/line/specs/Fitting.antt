@@ -2,7 +2,7 @@
 use Rattle.std.specs.Prelude.{ℕ, zero, suc, ◌+◌, ◌-◌, List, [], ◌∷◌, ◌++◌, ◌≡◌, length, get_or, Result, Ok, Err}
 use Rattle.std.proofs.Math.Option.{Option, none, some}
 use Rattle.rules.specs.Text.{Field, fields_of}
-use Rattle.rules.specs.Line.{Fitted, fits, misfit, fit, Shape, read_as, nth, text_at}
+use Rattle.rules.specs.Line.{Fitted, fits, misfit, fit, Shape, read_as, nth}
 use Rattle.rules.specs.declared.line.Fault.{Fault}
 use Rattle.rules.specs.declared.line.Kind.{Kind}
 use Rattle.rules.specs.declared.line.Kind.TheVariants.{Name, Anything}

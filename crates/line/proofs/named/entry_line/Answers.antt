@@ -16,11 +16,11 @@ returns-in_err-kind c = search (rules, type_wrong c.in_ok-name.ensures c.in_ok-v
 
 pub returns-in_err-no_more : goal.returns-in_err-no_more
 returns-in_err-no_more c =
-    search (rules, absolute_many c.in_ok-name.ensures c.in_ok-value.ensures c.in_ok-kind.ensures c.in_err-no_more.ensures c.if-kind-eq0.true)
+    search (rules, absolute_many c.in_ok-name.ensures c.in_ok-value.ensures c.in_ok-kind.ensures c.in_err-no_more.ensures (omega (arith, c.if-kind-eq0.true)))
 
 pub returns-then-kind-eq0 : goal.returns-then-kind-eq0
 returns-then-kind-eq0 c =
-    absolute_says c.in_ok-name.ensures c.in_ok-value.ensures c.in_ok-kind.ensures c.in_ok-no_more.ensures c.if-kind-eq0.true
+    absolute_says c.in_ok-name.ensures c.in_ok-value.ensures c.in_ok-kind.ensures c.in_ok-no_more.ensures (omega (arith, c.if-kind-eq0.true))
 
 pub returns-in_err-parameters : goal.returns-in_err-parameters
 returns-in_err-parameters c =
