@@ -21,17 +21,26 @@ pub struct Row {
     is_defined: bool,
 }
 
+// Rows are put by their bytes, since there may be so many.
 impl Row {
-    // It is put by its bytes, since there may be so many.
-    fn put(self, page: &mut Page, gap: &[u8]) {
-        page.put(&self.name.bytes());
-        page.put(gap);
-        page.put(&octal(self.address));
-        page.put(if self.is_defined {
-            b"\n".as_slice()
+    // In the symbol table.
+    fn put(self, page: &mut Page) {
+        let [a, b, c, d, e, f] = self.name.bytes();
+        let [u, v, w, x, y, z] = octal(self.address);
+        if self.is_defined {
+            page.put(&[a, b, c, d, e, f, b' ', u, v, w, x, y, z, b'\n']);
         } else {
-            b" U\n"
-        });
+            page.put(&[a, b, c, d, e, f, b' ', u, v, w, x, y, z, b' ', b'U', b'\n']);
+        }
+    }
+
+    // Among the undefined symbols.
+    fn put_undefined(self, page: &mut Page) {
+        let [a, b, c, d, e, f] = self.name.bytes();
+        let [u, v, w, x, y, z] = octal(self.address);
+        page.put(&[
+            a, b, c, d, e, f, b' ', b' ', b' ', u, v, w, x, y, z, b' ', b'U', b'\n',
+        ]);
     }
 }
 
@@ -82,23 +91,21 @@ pub fn undefined_rows(state: &[u64]) -> (UndefinedAnswer, Rows) {
     (first, rows)
 }
 
-fn put_rows(page: &mut Page, rows: &Rows, gap: &[u8]) {
-    for row in rows.iter().map_while(|row| *row) {
-        row.put(page, gap);
-    }
-}
-
 // The symbol table with its heading. An undefined symbol stands with the highest address that refers to it.
 pub fn write_table(page: &mut Page, high: u64, rows: &Rows) -> fmt::Result {
     write_high(page, high)?;
     writeln!(page, "\nSYMBOL TABLE\n\nSYMBOL VALUE")?;
-    put_rows(page, rows, b" ");
+    for row in rows.iter().map_while(|row| *row) {
+        row.put(page);
+    }
     Ok(())
 }
 
 // The undefined symbols.
 pub fn put_undefined(page: &mut Page, rows: &Rows) {
-    put_rows(page, rows, b"   ");
+    for row in rows.iter().map_while(|row| *row) {
+        row.put_undefined(page);
+    }
 }
 
 // What E prints once the image is in its file: the first defined symbol, HIGH, and how many symbols are undefined, if any is. All of it is
