@@ -64,7 +64,8 @@ fn count_at(file: &[u8], i: usize) -> Option<Count>
     Some(Count { behind, value })
 }
 
-// The marker at i and the end of the line from `at` on, which is that header.
+// The marker at i and the end of the line from `at` on, which is that header. Inlined, so that the marker and the header are constants.
+#[inline(always)]
 fn ended(file: &[u8], at: usize, i: usize, marker: &[u8], header: Header) -> Option<Frame>
     requires { (at ≤ i) × (i ≤ length file.now) }
     ensures { IfSome result (HeaderEnded file.now at i marker.now header) }

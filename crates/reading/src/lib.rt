@@ -143,6 +143,8 @@ pub fn read_lines(
             }
         }
     }
+    // Made anew here too: else each turn would take the padding of its mode along to the end.
+    let mode = renewed(mode);
     let reached = Ok(Clean { mode, line });
     LinesRead { reached, filled }
 }

@@ -68,18 +68,15 @@ fn library_end_step(m: Mode) -> Step
     Step::CloseSection(left, m.section.line)
 }
 
-// A block that may only stand in a module.
-fn inside_module(m: Mode, step: Step) -> Step
-    ensures { result ≡ inside_module m step }
-{
-    if m.object.inside { step } else { misplaced() }
-}
-
-// The header of a block whose records are of one kind.
+// The header of a block whose records are of one kind, which may only stand in a module. That is tested first: a step that is made before
+// the test is chosen field by field, and the reading's loop then asks once more which step it is.
 fn records_header(expected: Expected, count: u16, m: Mode) -> Step
     ensures { result ≡ inside_module m (Next (expect_records expected 0 count m)) }
 {
-    inside_module(m, Step::Next(expect_records(expected, 0, count, m)))
+    if !m.object.inside {
+        return misplaced();
+    }
+    Step::Next(expect_records(expected, 0, count, m))
 }
 
 #[tactic(auto, unfolding(rules::specs::Reading::header_step))]
@@ -88,10 +85,18 @@ pub fn header_step(n: u32, m: Mode, header: Header) -> Step
 {
     match header {
         Header::CodeBlock { count, offset } => {
+            if !m.object.inside {
+                return misplaced();
+            }
             let records = expect_records(Expected::CodeRecord, offset, count, m);
-            inside_module(m, Step::Add(records, Part::BlockPart { offset, count }))
+            Step::Add(records, Part::BlockPart { offset, count })
         }
-        Header::EndBlock => inside_module(m, Step::Next(expect(Expected::ClosingTitle, m))),
+        Header::EndBlock => {
+            if !m.object.inside {
+                return misplaced();
+            }
+            Step::Next(expect(Expected::ClosingTitle, m))
+        }
         Header::TitleBlock => title_step(n, m),
         Header::EntryBlock(count) => records_header(Expected::EntryRecord, count, m),
         Header::ExternalBlock(count) => records_header(Expected::ExternalRecord, count, m),

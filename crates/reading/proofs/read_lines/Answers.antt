@@ -101,4 +101,4 @@ pub shape_of-rows : goal.shape_of-rows
 shape_of-rows c = c.loop-at.invariant.row_length
 
 pub returns : goal.returns
-returns c = whole _ _ _ _ _ c.loop-at.invariant c.loop-at-test.false
+returns c = rw c.renewed-mode.ensures (whole _ _ _ _ _ c.loop-at.invariant c.loop-at-test.false)
