@@ -30,11 +30,11 @@ const WORK_CELLS: usize = PART_ROOM;
 
 // All cells of the state into an array. They are cut to the array's length, which the compiler knows, and so it sees that what the
 // array held before is never read.
-fn copy(state: &[u64], cells: &mut [u64; SIZE])
-    requires { length state.now ≡ size }
-    ensures { cells.new ≡ state.now }
+fn copy(source: &[u64], target: &mut [u64; SIZE])
+    requires { length source.now ≡ size }
+    ensures { target.new ≡ source.now }
 {
-    cells.copy_from_slice(&state[..SIZE]);
+    target.copy_from_slice(&source[..SIZE]);
 }
 
 // The walk over n rows; the answer is its rounds. A refusal leaves the state as it was, but for the broken mark.

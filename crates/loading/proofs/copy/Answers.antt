@@ -4,7 +4,7 @@ use native.Mathlib.Omega.{arith}
 use Rattle.loading.proofs.copy.Goals as goal
 
 pub slice_bounds-copy_from_slice-end-2 : goal.slice_bounds-copy_from_slice-end-2
-slice_bounds-copy_from_slice-end-2 c = sym (length-take-le 8708 c.args.state.now (omega (arith, c.requires)))
+slice_bounds-copy_from_slice-end-2 c = sym (length-take-le 8708 c.args.source.now (omega (arith, c.requires)))
 
 pub returns : goal.returns
-returns c = c.copy_from_slice.ensures.after ∙ take_all 8708 c.args.state.now (omega (arith, c.requires))
+returns c = c.copy_from_slice.ensures.after ∙ take_all 8708 c.args.source.now (omega (arith, c.requires))
