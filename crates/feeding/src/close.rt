@@ -34,13 +34,14 @@ fn refuse(reason: Reason, work: &mut [u64]) -> LoadAnswer
 pub fn close(feed: &mut [u64], state: &mut [u64], work: &mut [u64]) -> LoadAnswer
     ensures { Closed (close_feed (lent_feed feed.old) (lent state.old) (work_fits work.old)) feed.old state.old work.old result feed.new state.new work.new }
 {
-    let total = match open_load(feed) {
-        Ok(total) => total,
-        Err(reason) => return refuse(reason, work),
-    };
-    let mut file = [0u8; FILE_ROOM];
-    unpack(feed, BYTE_CELLS, &mut file);
-    let answer = load(state, work, &file[..total]);
-    feed.fill(0);
-    answer
+    match open_load(feed) {
+        Ok(total) => {
+            let mut file = [0u8; FILE_ROOM];
+            unpack(feed, BYTE_CELLS, &mut file);
+            let answer = load(state, work, &file[..total]);
+            feed.fill(0);
+            answer
+        }
+        Err(reason) => refuse(reason, work),
+    }
 }

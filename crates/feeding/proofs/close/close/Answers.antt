@@ -17,8 +17,8 @@ slice_bounds-file-end c = omega (arith, unpacked_length _ _ _ c.unpack.ensures, 
 pub slice_bounds-load-end : goal.slice_bounds-load-end
 slice_bounds-load-end c = sym (length-take-le _ _ (omega (arith, unpacked_length _ _ _ c.unpack.ensures, total_most c.args.feed.now c.in-Ok.ensures.0 _ c.in-Ok.ensures.1)))
 
-pub returns : goal.returns
-returns c =
+pub returns-in-Ok : goal.returns-in-Ok
+returns-in-Ok c =
     let s = c.in-Ok.ensures.0 in
     let some = c.in-Ok.ensures.1 in
     close_loaded _ _ (close_done c.args.feed.now s c.in-Ok.total some _ _)
