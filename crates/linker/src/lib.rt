@@ -77,6 +77,7 @@ pub fn lnk100_end(state: &mut [u64], out: &mut [u8]) -> EndAnswer
     commands::end(state, out)
 }
 
+#[inline(always)]
 pub fn lnk100_memory(state: &[u64]) -> MemoryAnswer
     ensures { result ≡ memory (lent state.now) }
 {

@@ -13,6 +13,7 @@ use state::header::symbol_count;
 use state::table::{Listed, symbol_at, undefined_position};
 use state::words::{high, highest};
 
+#[inline(always)]
 #[tactic(auto, using(crate::proofs::ListingLaws::memory_refused, crate::proofs::ListingLaws::memory_is))]
 fn try_memory(state: &[u64]) -> Result<usize, Reason>
     ensures { memory_told result ≡ memory_answer (lent state.now) }
@@ -21,7 +22,8 @@ fn try_memory(state: &[u64]) -> Result<usize, Reason>
     Ok(high(state))
 }
 
-// HIGH.
+// HIGH. Inlined up to the caller of the call, so that one who asks for more makes one test of the state for all of it.
+#[inline(always)]
 pub fn memory(state: &[u64]) -> MemoryAnswer
     ensures { result ≡ memory_answer (lent state.now) }
 {
