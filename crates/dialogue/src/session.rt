@@ -131,6 +131,8 @@ impl Session {
         tell(rt, a.into());
     }
 
+    // Never inlined: its rows would else stand in the session's own frame, below LOAD's, and the program would need more stack.
+    #[inline(never)]
     fn symbols(&mut self, rt: &(impl Files + Print + Eprint), path: &[u8]) {
         let (a, rows) = table_rows(&self.state);
         if tell(rt, a.into()) {
@@ -140,6 +142,8 @@ impl Session {
         }
     }
 
+    // The same.
+    #[inline(never)]
     fn undefined(&mut self, rt: &(impl Files + Print + Eprint), path: &[u8]) {
         let (a, rows) = undefined_rows(&self.state);
         if tell(rt, a.into()) {
